@@ -1,0 +1,29 @@
+-- The figures hold: both sides of each compute to the same. Assumes nothing.
+use mathlib.Core.Path.{refl}
+use lib.Ieee.{isNan, ofBits}
+use Rattle.hundredths.specs.Reading.{hundredthsOf, outOfRange, speedOf, pressureOf}
+use Rattle.hundredths.specs.Figures.{Figures}
+
+pub figures : Figures
+unfolding ofBits isNan hundredthsOf outOfRange speedOf pressureOf
+figures =
+    record {
+      pressure-69 = refl;
+      speed-70 = refl;
+      speed-100 = refl;
+      speed-past-100 = refl;
+      pressure-160 = refl;
+      pressure-past-160 = refl;
+      speed-minus-zero = refl;
+      pressure-minus-zero = refl;
+      speed-least = refl;
+      pressure-least = refl;
+      speed-below = refl;
+      pressure-below = refl;
+      speed-nan = refl;
+      pressure-nan = refl;
+      speed-infinite = refl;
+      pressure-infinite = refl;
+      speed-minus-infinite = refl;
+      pressure-minus-infinite = refl;
+    }

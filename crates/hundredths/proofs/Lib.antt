@@ -1,0 +1,6 @@
+pub mod Judge
+pub mod Rounded
+pub mod Accepted
+pub mod Value
+pub mod Figures
+pub mod Unique

@@ -1,0 +1,17 @@
+-- The figures, computed. Assumes nothing.
+use mathlib.Core.Path.{refl}
+use Rattle.whole.specs.Floor.{floorDiv}
+use Rattle.whole.specs.Ceiling.{ceilDiv}
+use Rattle.whole.specs.Root.{digits, rootOf}
+use Rattle.whole.specs.Figures.{Figures}
+
+pub figures : Figures
+unfolding floorDiv ceilDiv digits rootOf
+figures = record {
+  grade = refl;
+  below-zero = refl;
+  offset-40 = refl;
+  offset-30 = refl;
+  root-exact = refl;
+  root-under = refl;
+}

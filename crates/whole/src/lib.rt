@@ -1,0 +1,48 @@
+// Division down and up to a whole number, and the whole square root. Every function answers for every input.
+// Assumes nothing.
+
+ghost use mathlib.Core.Path.{_≡_};
+ghost use Rattle.whole.specs.Floor.{floorDiv};
+ghost use Rattle.whole.specs.Ceiling.{ceilDiv};
+ghost use Rattle.whole.specs.Root.{rootOf};
+
+// The machine's quotient goes toward zero: where a remainder is left below zero, it is one too high.
+pub fn floor_div(a: i64, b: i64) -> i64
+    ensures { λ r. ⌜ r ≡ floorDiv a b ⌝ }
+{
+    if b <= 0 {
+        return 0;
+    }
+    let q = a / b;
+    if a % b < 0 { q - 1 } else { q }
+}
+
+// By quotient and remainder, since a + (b - 1) may not fit.
+pub fn ceil_div(a: u64, b: u64) -> u64
+    ensures { λ r. ⌜ r ≡ ceilDiv a b ⌝ }
+{
+    if b == 0 {
+        0
+    } else if 0 < a % b {
+        a / b + 1
+    } else {
+        a / b
+    }
+}
+
+// By halving: the root is lo or above it, and below hi.
+pub fn isqrt(q: u64) -> u64
+    ensures { λ r. ⌜ r ≡ rootOf q ⌝ }
+{
+    let mut lo: u64 = 0;
+    let mut hi: u64 = 0x1_0000_0000;
+    while lo + 1 < hi {
+        let mid = (lo + hi) / 2;
+        if mid * mid <= q {
+            lo = mid;
+        } else {
+            hi = mid;
+        }
+    }
+    lo
+}
