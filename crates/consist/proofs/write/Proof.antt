@@ -13,6 +13,7 @@ use Rattle.consist.specs.Steps.{highWord, lowWord}
 use Rattle.consist.proofs.Steps.{on-unless, off-unless, fits, words-put}
 use Rattle.consist.proofs.Answers.{write-range, write-light, write-room, write-accepted}
 use borrow.Author.Needs.{needs}
+use native.Mathlib.Omega.{arith}
 use Rattle.consist.proofs.write.Statement.{statement}
 use Rattle.consist.proofs.write.Tie as tie
 
@@ -54,7 +55,7 @@ returns-2 c =
     sym (write-light _ _ (r .0) (ap tooLight (sym (r .1)) ∙ off-unless _ _ (sym (c .enum-told2 .given .1) ∙ c .before .before .weighed .ensures)))
 
 returns-3 : tie.Need-returns-3
-returns-3 c = sym (write-room _ _ (past-range (c .before .before .before .before .before .before) .0) (past-weight (c .before .before) .0) (c .if1 .taken))
+returns-3 c = sym (write-room _ _ (past-range (c .before .before .before .before .before .before) .0) (past-weight (c .before .before) .0) (omega arith))
 
 high-word-requires : tie.Need-high-word-requires
 high-word-requires c κs =

@@ -1,0 +1,101 @@
+-- "Decision, 8 bytes": the layout, its reader and its writer. Definitions only.
+use Prim.Native.Nat.{ℕ, _^_}
+use mathlib.Core.List.{List, [], _∷_, _++_}
+use mathlib.Core.Bool.{Bool, cond, not, _||_, Bool·beq}
+use lib.ListN.{length, getD}
+use lib.Dec.{leb, ltb, eqb}
+use Rattle.bits.specs.Bytes.{fieldsIn, bytesFrom}
+use Rattle.refusal.specs.Lowest.{Rule, lowest}
+use Rattle.refusal.specs.Written.{noRoom, written}
+use Rattle.refusal.specs.declared.Refusal.the-variants.{WrongLength, WrongMark, OutOfRange, NoRoom}
+use Rattle.refusal.specs.declared.Verdict.{Verdict}
+use Rattle.refusal.specs.declared.Verdict.the-variants as verdict
+use Rattle.decision.specs.declared.Decision.{Decision}
+use Rattle.decision.specs.declared.Answer.{Answer}
+use Rattle.decision.specs.declared.Answer.the-variants.{Accepted, Refused}
+
+-- "mark 8 (0x44)"
+abbrev pub mark : ℕ
+mark = 68
+
+-- the greatest location
+abbrev pub farthest : ℕ
+farthest = 4000000
+
+-- "16,777,215 for no stop"
+abbrev pub noStop : ℕ
+noStop = 16777215
+
+-- the bit that stands for a bool
+abbrev pub bit : Bool → ℕ
+bit b = cond b 1 0
+
+-- mark, time, brake state, penalty, cause, stopping location
+abbrev pub fieldsOf : Decision → List ℕ
+fieldsOf d = mark ∷ d .time ∷ d .state ∷ bit (d .penalty) ∷ d .cause ∷ d .stop ∷ []
+
+abbrev pub widths : List ℕ
+widths = 8 ∷ 24 ∷ 3 ∷ 1 ∷ 4 ∷ 24 ∷ []
+
+abbrev pub ofFields : List ℕ → Decision
+ofFields fs = record {
+  time = getD fs 1 0;
+  state = getD fs 2 0;
+  penalty = eqb (getD fs 3 0) 1;
+  cause = getD fs 4 0;
+  stop = getD fs 5 0;
+}
+
+-- the decision that bytes stand for, and the bytes of a decision
+unfoldable pub decisionIn : List ℕ → Decision
+decisionIn s = ofFields (fieldsIn widths s)
+
+unfoldable pub bytesOf : Decision → List ℕ
+bytesOf d = bytesFrom 8 widths (fieldsOf d)
+
+-- 2: a decision read is not 8 bytes
+unfoldable pub wrongLength : List ℕ → Bool
+wrongLength s = not (eqb (length s) 8)
+
+-- 3: a wrong mark, of the fields that are read
+unfoldable pub wrongMark : List ℕ → Bool
+wrongMark fs = not (eqb (getD fs 0 0) mark)
+
+-- "the penalty bit is 1 exactly when the cause is not 0"
+abbrev pub atOdds : Decision → Bool
+atOdds d = not (Bool·beq (d .penalty) (not (eqb (d .cause) 0)))
+
+-- "a location is at most 4,000,000 or the no-stop value"
+abbrev pub rightStop : Decision → Bool
+rightStop d = leb (d .stop) farthest || eqb (d .stop) noStop
+
+-- 4: a decision field out of its range ("time 24", "State is at most 5", cause "0, or 1 to 8"), penalty and cause at odds too
+unfoldable pub outOfRange : Decision → Bool
+outOfRange d =
+    leb (2 ^ 24) (d .time)
+    || ltb 5 (d .state)
+    || ltb 8 (d .cause)
+    || atOdds d
+    || not (rightStop d)
+
+-- what a reader and a writer refuse alike
+abbrev pub rules : Decision → List Rule
+rules d = (outOfRange d, OutOfRange) ∷ []
+
+-- the paper's number and values: the lowest refusal, or the decision
+abbrev pub answer : Verdict → Decision → Answer
+answer verdict.Accepted d = Accepted d
+answer (verdict.Refused r) d = Refused r
+
+abbrev pub readRules : List ℕ → List Rule
+readRules s = (wrongLength s, WrongLength) ∷ (wrongMark (fieldsIn widths s), WrongMark) ∷ rules (decisionIn s)
+
+unfoldable pub readDecision : List ℕ → Answer
+readDecision s = answer (lowest (readRules s)) (decisionIn s)
+
+-- "Writers refuse what the reader would, with its number, touching nothing, and never touch bytes past the record."
+abbrev pub writeRules : Decision → List ℕ → List Rule
+writeRules d out = rules d ++ (noRoom 8 out, NoRoom) ∷ []
+
+unfoldable pub writeDecision : Decision → List ℕ → Verdict × List ℕ
+writeDecision d out = written (lowest (writeRules d out)) (bytesOf d) out
