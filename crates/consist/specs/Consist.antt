@@ -1,7 +1,7 @@
 -- "Consist, 16 bytes": the layout, its reader and its writer. Definitions only.
 use Prim.Native.Nat.{ℕ, _*_}
 use mathlib.Core.List.{List, [], _∷_, _++_}
-use mathlib.Core.Bool.{Bool, not}
+use mathlib.Core.Bool.{Bool, not, _&&_}
 use lib.ListN.{length, getD}
 use lib.Dec.{ltb, eqb}
 use Rattle.bits.specs.Bytes.{fieldsIn, bytesFrom}
@@ -60,6 +60,10 @@ outOfRange c = not (inRange c)
 -- 5: weight under 10 tons a car
 unfoldable pub tooLight : Consist → Bool
 tooLight c = ltb (c .weight) (10 * c .cars)
+
+-- neither
+unfoldable pub isSound : Consist → Bool
+isSound c = inRange c && not (tooLight c)
 
 -- what a reader and a writer refuse alike
 abbrev pub rules : Consist → List Rule

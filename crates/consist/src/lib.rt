@@ -4,7 +4,7 @@ use refusal::Verdict;
 ghost use mathlib.Core.Path.{_≡_};
 ghost use Prim.Native.Nat.{_+_, _*_, _^_};
 ghost use Rattle.bits.specs.Fields.{split, Fit};
-ghost use Rattle.consist.specs.Consist.{widths, fieldsOf, ofFields, inRange, outOfRange, tooLight, readConsist, writeConsist};
+ghost use Rattle.consist.specs.Consist.{widths, fieldsOf, ofFields, inRange, outOfRange, tooLight, isSound, readConsist, writeConsist};
 ghost use Rattle.consist.specs.Steps.{wordsOf, unless, highWord, lowWord};
 
 pub struct Consist {
@@ -100,15 +100,24 @@ fn ranged(c: Consist) -> Step
     if in_range(c) { Step::On(c) } else { Step::Off }
 }
 
+fn too_light(c: Consist) -> bool
+    ensures { λ r. ⌜ r ≡ tooLight c ⌝ }
+{
+    (c.weight as u32) < 10 * c.cars as u32
+}
+
 // The consist, if it has ten tons a car.
 fn weighed(c: Consist) -> Step
     ensures { λ r. ⌜ r ≡ unless (tooLight c) c ⌝ }
 {
-    if (c.weight as u32) < 10 * c.cars as u32 {
-        Step::Off
-    } else {
-        Step::On(c)
-    }
+    if too_light(c) { Step::Off } else { Step::On(c) }
+}
+
+// Whether a consist is one that is not refused.
+pub fn is_sound(c: Consist) -> bool
+    ensures { λ r. ⌜ r ≡ isSound c ⌝ }
+{
+    in_range(c) & !too_light(c)
 }
 
 pub fn read(s: &[u8]) -> Answer

@@ -1,12 +1,12 @@
 -- What the first rule of a list decides: callers go down their list of rules by these laws. Assumes nothing.
 use mathlib.Core.Path.{_≡_, refl, ap, _∙_}
-use mathlib.Core.Bool.{Bool, true, false, cond}
-use mathlib.Core.List.{List, [], _∷_}
+use mathlib.Core.Bool.{Bool, true, false, _&&_, cond}
+use mathlib.Core.List.{List, [], _∷_, _++_}
 use Prim.Native.Nat.{ℕ, _<_}
 use native.Mathlib.Nat.{le-of-lt}
 use native.Mathlib.Omega.{arith}
-use lib.Dec.{T, leb, ltb}
-use borrow.Author.Tests.{le-leb, ltb-true}
+use lib.Dec.{T, leb, ltb, ltb→lt}
+use borrow.Author.Tests.{le-leb}
 use Rattle.refusal.specs.declared.Refusal.{Refusal}
 use Rattle.refusal.specs.declared.Verdict.{Verdict}
 use Rattle.refusal.specs.declared.Verdict.the-variants.{Accepted, Refused}
@@ -14,10 +14,18 @@ use Rattle.refusal.specs.Number.{numberOf}
 use Rattle.refusal.specs.Lowest.{Rule, lower, lowest}
 use Rattle.refusal.specs.Written.{written}
 
+T-left : (a b : Bool) → T (a && b) → T a
+T-left true b h = tt
+T-left false b h = h
+
+T-right : (a b : Bool) → T (a && b) → T b
+T-right true b h = h
+T-right false b h = absurd h
+
 -- every number of the list is above n: computed from the refusals alone, so `tt` shows it of a list that is written out
 abbrev pub above : ℕ → List Rule → Bool
 above n [] = true
-above n (rule ∷ rules) = cond (ltb n (numberOf (rule .1))) (above n rules) false
+above n (rule ∷ rules) = ltb n (numberOf (rule .1)) && above n rules
 
 -- a verdict whose number, if it has one, is above n
 abbrev AboveV : ℕ → Verdict → Type 0
@@ -35,16 +43,14 @@ lower-above n r (Refused s) h k = go (leb (numberOf r) (numberOf s))
 lowest-above : (n : ℕ) (rules : List Rule) → T (above n rules) → AboveV n (lowest rules)
 unfolding lowest
 lowest-above n [] t = tt
-lowest-above n (rule ∷ rules) t = first (ltb n (numberOf (rule .1))) refl t (lowest-above n rules)
+lowest-above n (rule ∷ rules) t =
+    pick (rule .0)
+    (ltb→lt n (numberOf (rule .1)) (T-left (ltb n (numberOf (rule .1))) (above n rules) t))
+    (lowest-above n rules (T-right (ltb n (numberOf (rule .1))) (above n rules) t))
   where
     pick : (b : Bool) → n < numberOf (rule .1) → AboveV n (lowest rules) → AboveV n (cond b (lower (rule .1) (lowest rules)) (lowest rules))
     pick true h k = lower-above n (rule .1) (lowest rules) h k
     pick false h k = k
-
-    first : (b : Bool) → ltb n (numberOf (rule .1)) ≡ b → T (cond b (above n rules) false) → (T (above n rules) → AboveV n (lowest rules))
-        → AboveV n (cond (rule .0) (lower (rule .1) (lowest rules)) (lowest rules))
-    first true e u rest = pick (rule .0) (ltb-true n (numberOf (rule .1)) e) (rest u)
-    first false e u rest = absurd u
 
 first-lower : (r : Refusal) (v : Verdict) → AboveV (numberOf r) v → lower r v ≡ Refused r
 first-lower r Accepted h = refl
@@ -79,6 +85,39 @@ pub accepted : (b : Bool) (r : Refusal) (rules : List Rule) → lowest ((b, r) �
 unfolding lowest
 accepted true r rules h = absurd (lower-not r (lowest rules) h)
 accepted false r rules h = (refl, h)
+
+-- ---- one list after another
+
+-- where the first list refuses nothing, the second decides
+pub append-passed : (xs ys : List Rule) → lowest xs ≡ Accepted → lowest (xs ++ ys) ≡ lowest ys
+append-passed [] ys h = refl
+append-passed (x ∷ xs) ys h =
+    let a = accepted (x .0) (x .1) xs h in
+    passed (x .0) (x .1) (xs ++ ys) (a .0) ∙ append-passed xs ys (a .1)
+
+-- every number of the second list is above every number of the first: computed, as `above` is
+abbrev pub before : List Rule → List Rule → Bool
+before [] ys = true
+before (x ∷ xs) ys = above (numberOf (x .1)) ys && before xs ys
+
+lower-kept : (x : Rule) (xs ys : List Rule) (v : Verdict) (r : Refusal) → T (above (numberOf (x .1)) ys)
+    → (v ≡ Accepted → lowest (xs ++ ys) ≡ lowest ys) → ((s : Refusal) → v ≡ Refused s → lowest (xs ++ ys) ≡ Refused s)
+    → lower (x .1) v ≡ Refused r → lower (x .1) (lowest (xs ++ ys)) ≡ Refused r
+lower-kept x xs ys Accepted r t none some h =
+    ap (lower (x .1)) (none refl) ∙ first-lower (x .1) (lowest ys) (lowest-above (numberOf (x .1)) ys t) ∙ h
+lower-kept x xs ys (Refused s) r t none some h = ap (lower (x .1)) (some s refl) ∙ h
+
+-- what the first list refuses stands, whatever the second says
+pub append-given : (xs ys : List Rule) (r : Refusal) → T (before xs ys) → lowest xs ≡ Refused r → lowest (xs ++ ys) ≡ Refused r
+unfolding lowest
+append-given [] ys r t h = absurd (let z : _≡_ {A = ℕ} 0 1 = cc in omega arith)
+append-given (x ∷ xs) ys r t h = by (x .0) h (λ s. append-given xs ys s (T-right (above (numberOf (x .1)) ys) (before xs ys) t))
+  where
+    by : (b : Bool) → cond b (lower (x .1) (lowest xs)) (lowest xs) ≡ Refused r → ((s : Refusal) → lowest xs ≡ Refused s → lowest (xs ++ ys) ≡ Refused s)
+        → cond b (lower (x .1) (lowest (xs ++ ys))) (lowest (xs ++ ys)) ≡ Refused r
+    by true e rest =
+        lower-kept x xs ys (lowest xs) r (T-left (above (numberOf (x .1)) ys) (before xs ys) t) (append-passed xs ys) rest e
+    by false e rest = rest r e
 
 -- a writer's verdict is the one that its rules give
 pub written-accepted : (v : Verdict) (bytes out : List ℕ) → written v bytes out .0 ≡ Accepted → v ≡ Accepted
