@@ -4,4 +4,5 @@ pub mod Bytes
 pub mod Words
 pub mod Ranges
 pub mod Tables
+pub mod UpTo
 pub mod Unique

@@ -1,0 +1,12 @@
+-- `profile::counts` meets its contract. Assumes nothing.
+use mathlib.Core.Path.{refl}
+use Rattle.profile.specs.Profile.{counted}
+use Rattle.profile.proofs.counts.Statement.{statement}
+use Rattle.profile.proofs.counts.Tie as tie
+
+returns : tie.Need-returns
+unfolding counted
+returns c = refl
+
+pub counts-spec : {M : Type 1} → statement M
+counts-spec = tie.close (tie.spec returns)

@@ -1,0 +1,7 @@
+-- The profile's records.
+pub mod Grade
+pub mod Profile
+pub mod Sound
+pub mod RoundTrip
+pub mod Exactly
+pub mod Figures

@@ -1,0 +1,20 @@
+-- What a caller may count on in a profile that is accepted: `judged-sound` of proofs/Sound.antt.
+use mathlib.Core.Path.{_≡_}
+use Prim.Native.Nat.{ℕ, _-_, _≤_, _<_}
+use lib.IntN.{pos, natAbs}
+use Rattle.profile.specs.declared.Segment.{Segment}
+
+-- a segment in range
+pub record Ranged (g : Segment) : Type 0 where
+  pub grade : natAbs (g .grade) ≤ 500
+  pub curvature : g .curvature ≤ 2000
+  pub start : g .start ≤ 4000000
+
+-- n records
+pub record Sound (n : ℕ) (f : ℕ → Segment) : Type 0 where
+  pub fewest : 2 ≤ n
+  pub most : n ≤ 257
+  pub each : (k : ℕ) → k < n → Ranged (f k)
+  pub rising : (k m : ℕ) → k < m → m < n → f k .start < f m .start
+  pub last-grade : f (n - 1) .grade ≡ pos 0
+  pub last-curvature : f (n - 1) .curvature ≡ 0

@@ -1,0 +1,8 @@
+-- Laws of the targets' judge and writer.
+pub mod Rules
+pub mod Answers
+pub mod Sound
+pub mod RoundTrip
+pub mod Exactly
+pub mod Figures
+pub mod Unique

@@ -1,0 +1,14 @@
+-- What a caller may count on in targets that are accepted: `judged-sound` of proofs/Sound.antt.
+use Prim.Native.Nat.{ℕ, _≤_, _<_}
+use Rattle.targets.specs.declared.Target.{Target}
+
+-- a target in range
+pub record Ranged (g : Target) : Type 0 where
+  pub location : g .location ≤ 4000000
+  pub speed : g .speed ≤ 10000
+
+-- n records
+pub record Sound (n : ℕ) (f : ℕ → Target) : Type 0 where
+  pub most : n ≤ 8
+  pub each : (k : ℕ) → k < n → Ranged (f k)
+  pub rising : (k m : ℕ) → k < m → m < n → f k .location < f m .location

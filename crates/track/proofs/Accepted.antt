@@ -1,0 +1,33 @@
+-- The track of an accepted profile: it has the profile's records, and it is gentle. Assumes nothing.
+use mathlib.Core.Path.{_≡_, sym, subst}
+use Prim.Native.Nat.{ℕ, _<_}
+use native.Mathlib.Decide.{decLt}
+use native.Mathlib.Omega.{arith}
+use mathlib.Core.List.{List}
+use Rattle.profile.specs.declared.Judged.the-variants.{Records}
+use Rattle.profile.specs.Profile.{judgeProfile}
+use Rattle.profile.specs.Sound.{Ranged}
+use Rattle.profile.proofs.Sound.{judged-kept, judged-sound}
+use Rattle.track.specs.Track.{most, layOf, at}
+use Rattle.track.specs.Gentle.{Gentle}
+use Rattle.track.proofs.Lay.{nothing, past, lay-at, lay-past}
+
+module _ (p : List ℕ) (n : ℕ) (h : judgeProfile p ≡ Records n) where
+  pub lay-count : layOf p .count ≡ n
+  unfolding layOf
+  lay-count = omega (arith, judged-kept p n h .1, judged-sound p n h .most)
+
+  -- every place, past the last record too
+  lay-ranged : (k : ℕ) → Ranged (at (layOf p) k)
+  lay-ranged k = by (decLt k n) (decLt k most)
+    where
+      zeros : Ranged nothing
+      zeros = record { grade = omega arith; curvature = omega arith; start = omega arith }
+
+      by : Dec (k < n) → Dec (k < most) → Ranged (at (layOf p) k)
+      by (yes a) (yes b) = subst Ranged (sym (lay-at p k b)) (judged-sound p n h .each k a)
+      by (no a) (yes b) = subst Ranged (sym (lay-at p k b)) (subst Ranged (sym (past p k (omega (arith, judged-kept p n h .1)))) zeros)
+      by d (no b) = subst Ranged (sym (lay-past p k (omega arith))) zeros
+
+  pub lay-gentle : Gentle (layOf p)
+  lay-gentle = record { grade = λ k. lay-ranged k .grade; curvature = λ k. lay-ranged k .curvature }

@@ -1,0 +1,186 @@
+// A profile laid out as a track, and the average grade and curvature of the track under a train. Every public function answers for every input.
+// Assumes nothing.
+
+ghost use mathlib.Core.Path.{_≡_};
+ghost use Prim.Native.Nat.{_-_, _/_, _<_, min, max};
+ghost use lib.IntN.{pos};
+ghost use Rattle.whole.specs.Floor.{floorDiv};
+ghost use Rattle.track.specs.Track.{most, layOf, underOf};
+ghost use Rattle.track.specs.Steps.{trackOf, sumsUnder, Within, Plus};
+
+// Bytes a record.
+const SIZE: usize = 6;
+
+// As many records as a profile may have.
+const MOST: usize = 257;
+
+// A profile laid out: record k at place k of each array.
+pub struct Track {
+    pub count: usize,
+    pub starts: [u32; MOST],
+    pub grades: [i16; MOST],
+    pub curvatures: [u16; MOST],
+}
+
+// G and C: the averages under a train.
+pub struct Under {
+    pub grade: i64,
+    pub curvature: u64,
+}
+
+// The sums of grade × feet and curvature × feet under a train.
+struct Sums {
+    grade: i64,
+    curvature: u64,
+}
+
+// How many of n records a track holds.
+fn records(n: usize) -> usize
+    ensures { λ r. ⌜ r ≡ min n most ⌝ }
+{
+    if n < MOST { n } else { MOST }
+}
+
+impl Track {
+    // The records of a profile, each in its place; past the last, zeros.
+    pub fn laid(p: &[u8]) -> Track
+        ensures { λ r. ⌜ r ≡ layOf (now (p .entry)) ⌝ }
+    {
+        let mut starts = [0u32; MOST];
+        let mut grades = [0i16; MOST];
+        let mut curvatures = [0u16; MOST];
+        let count = records(p.len() / SIZE);
+        let mut k: usize = 0;
+        while k < count {
+            let next = k + 1;
+            let g = profile::segment_at(p, k);
+            let grade = g.grade;
+            starts[k] = g.start;
+            grades[k] = grade;
+            curvatures[k] = g.curvature;
+            k = next;
+        }
+        Track {
+            count,
+            starts,
+            grades,
+            curvatures,
+        }
+    }
+}
+
+// How many segments n records are.
+fn segments(n: usize) -> usize
+    ensures { λ r. ⌜ r ≡ min n most - 1 ⌝ }
+{
+    let count = records(n);
+    if 0 < count { count - 1 } else { 0 }
+}
+
+fn lesser(a: u32, b: u32) -> u32
+    ensures { λ r. ⌜ r ≡ min a b ⌝ }
+{
+    if a < b { a } else { b }
+}
+
+fn greater(a: u32, b: u32) -> u32
+    ensures { λ r. ⌜ r ≡ max a b ⌝ }
+{
+    if a < b { b } else { a }
+}
+
+// Where the rear is; a train longer than where its head is begins at 0.
+fn rear_of(head: u32, length: u32) -> u32
+    ensures { λ r. ⌜ r ≡ head - length ⌝ }
+{
+    if length < head { head - length } else { 0 }
+}
+
+// The feet of a segment that lie under the train.
+fn feet_under(rear: u32, head: u32, from: u32, to: u32) -> u32
+    ensures { λ r. ⌜ r ≡ min head to - max rear from ⌝ }
+{
+    let first = greater(rear, from);
+    let last = lesser(head, to);
+    if first < last { last - first } else { 0 }
+}
+
+// Over the train's length, down.
+fn grade_over(sum: i64, length: u32) -> i64
+    ensures { λ r. ⌜ r ≡ floorDiv sum (pos length) ⌝ }
+{
+    whole::floor_div(sum, length as i64)
+}
+
+fn curvature_over(sum: u64, length: u32) -> u64
+    requires { ⌜ 0 < length ⌝ }
+    ensures { λ r. ⌜ r ≡ sum / length ⌝ }
+{
+    sum / length as u64
+}
+
+impl Sums {
+    // A segment more.
+    fn plus(self, feet: u32, grade: i16, curvature: u16) -> Sums
+        requires { ⌜ Within most self ⌝ }
+        ensures { λ r. ⌜ Plus self feet grade curvature r ⌝ }
+    {
+        Sums {
+            grade: self.grade + feet as i64 * grade as i64,
+            curvature: self.curvature + feet as u64 * curvature as u64,
+        }
+    }
+}
+
+// The sums over all segments. One that the train does not touch is passed by.
+fn sums_under<'a>(
+    count: usize,
+    starts: &'a [u32; MOST],
+    grades: &'a [i16; MOST],
+    curvatures: &'a [u16; MOST],
+    rear: u32,
+    head: u32,
+) -> Sums
+    ensures { λ r. ⌜ r ≡ sumsUnder (trackOf count (now (starts .entry)) (now (grades .entry)) (now (curvatures .entry))) rear head ⌝ }
+{
+    let n = segments(count);
+    let mut sums = Sums {
+        grade: 0,
+        curvature: 0,
+    };
+    let mut k: usize = 0;
+    while k < n {
+        let next = k + 1;
+        let feet = feet_under(rear, head, starts[k], starts[next]);
+        if 0 < feet {
+            sums = sums.plus(feet, grades[k], curvatures[k]);
+        }
+        k = next;
+    }
+    sums
+}
+
+// G and C. A track is given by its fields, so that its arrays are lent and not copied.
+pub fn under_train<'a>(
+    count: usize,
+    starts: &'a [u32; MOST],
+    grades: &'a [i16; MOST],
+    curvatures: &'a [u16; MOST],
+    head: u32,
+    length: u32,
+) -> Under
+    ensures { λ r. ⌜ r ≡ underOf (trackOf count (now (starts .entry)) (now (grades .entry)) (now (curvatures .entry))) head length ⌝ }
+{
+    if length == 0 {
+        return Under {
+            grade: 0,
+            curvature: 0,
+        };
+    }
+    let rear = rear_of(head, length);
+    let sums = sums_under(count, starts, grades, curvatures, rear, head);
+    Under {
+        grade: grade_over(sums.grade, length),
+        curvature: curvature_over(sums.curvature, length),
+    }
+}
