@@ -14,7 +14,7 @@ dip = record { count = 3; starts = 0 ∷ 51 ∷ 100 ∷ []; grades = pos 50 ∷ 
 abbrev pub dipBytes : List ℕ
 dipBytes = 0 ∷ 0 ∷ 0 ∷ 6 ∷ 65 ∷ 144 ∷ 0 ∷ 0 ∷ 51 ∷ 249 ∷ 99 ∷ 36 ∷ 0 ∷ 0 ∷ 100 ∷ 0 ∷ 0 ∷ 0 ∷ []
 
--- three segments, the first from 10 ft on
+-- three segments, the first from 10 ft on; -100 is `negsuc 99`
 abbrev pub hill : Track
 hill = record {
   count = 4;

@@ -105,13 +105,14 @@ fn feet_under(rear: u32, head: u32, from: u32, to: u32) -> u32
     if first < last { last - first } else { 0 }
 }
 
-// Over the train's length, down.
+// G: a sum over the train's length, down.
 fn grade_over(sum: i64, length: u32) -> i64
     ensures { λ r. ⌜ r ≡ floorDiv sum (pos length) ⌝ }
 {
     whole::floor_div(sum, length as i64)
 }
 
+// C.
 fn curvature_over(sum: u64, length: u32) -> u64
     requires { ⌜ 0 < length ⌝ }
     ensures { λ r. ⌜ r ≡ sum / length ⌝ }

@@ -3,6 +3,7 @@ use mathlib.Core.Path.{_≡_, sym, ap, _∙_}
 use mathlib.Core.Bool.{true}
 use mathlib.Core.List.{List}
 use Prim.Native.Nat.{ℕ}
+use native.Mathlib.Omega.{arith}
 use borrow.Author.Tests.{not-true, not-false}
 use Rattle.refusal.specs.declared.Verdict.the-variants as verdict
 use Rattle.profile.specs.Profile.{keptOf}
@@ -29,7 +30,7 @@ mul-if2 c = search needs
 returns-2 : tie.Need-returns-2
 returns-2 c =
     let a = c .before .before .before .before .before .before .args in
-    sym (write-room (a .starts .now) (a .grades .now) (a .curvatures .now) (a .out .now) (past-rules (c .before)) (c .if2 .taken))
+    sym (write-room (a .starts .now) (a .grades .now) (a .curvatures .now) (a .out .now) (past-rules (c .before)) (omega (arith, c .if2 .taken)))
 
 put-rows-requires : tie.Need-put-rows-requires
 put-rows-requires c κs = (past-rules (c .before .before), c .before .if2 .left)

@@ -1,0 +1,29 @@
+-- `Brake::fallen_in_emergency` meets its contract. Assumes nothing.
+use mathlib.Core.Path.{ap, _∙_}
+use Prim.Native.Nat.{ℕ, _*_}
+use native.Mathlib.Omega.{arith}
+use Rattle.brake.specs.Rules.{fallBy, fallInEmergency}
+use borrow.Author.Needs.{needs}
+use Rattle.brake.proofs.Brake.fallen_in_emergency.Statement.{statement}
+use Rattle.brake.proofs.Brake.fallen_in_emergency.Tie as tie
+
+drop-requires : tie.Need-drop-requires
+drop-requires c κs = search needs
+
+cast-fallen : tie.Need-cast-fallen
+cast-fallen c = search needs
+
+mul-fallen : tie.Need-mul-fallen
+mul-fallen c = search needs
+
+fallen-requires : tie.Need-fallen-requires
+unfolding fallInEmergency
+fallen-requires c κs = omega (arith, c .drop .ensures)
+
+returns : tie.Need-returns
+unfolding fallInEmergency
+returns c = c .fallen .ensures ∙ ap (λ (drop : ℕ). fallBy (c .before .before .args .self) drop (6 * drop)) (c .before .drop .ensures)
+
+pub fallen-in-emergency-spec : {M : Type 1} → statement M
+fallen-in-emergency-spec =
+    tie.close (tie.spec drop-requires cast-fallen mul-fallen fallen-requires returns)

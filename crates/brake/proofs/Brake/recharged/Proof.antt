@@ -1,0 +1,48 @@
+-- `Brake::recharged` meets its contract. Assumes nothing.
+use mathlib.Core.Path.{ap, _∙_}
+use Prim.Native.Nat.{ℕ, _+_, min}
+use native.Mathlib.Omega.{arith}
+use borrow.Author.Tests.{lt-leb, le-leb}
+use Rattle.brake.specs.Brake.{withA}
+use Rattle.brake.specs.Rules.{recharged}
+use borrow.Author.Needs.{needs}
+use Rattle.brake.proofs.Brake.recharged.Statement.{statement}
+use Rattle.brake.proofs.Brake.recharged.Tie as tie
+
+in-state-requires : tie.Need-in-state-requires
+in-state-requires c κs = search needs
+
+returns : tie.Need-returns
+unfolding recharged
+returns c = rw (le-leb _ _ (c .before .if1 .taken)) (c .in-state .ensures)
+
+cast-lesser : tie.Need-cast-lesser
+cast-lesser c = search needs
+
+over-requires : tie.Need-over-requires
+over-requires c κs = search needs
+
+add-lesser : tie.Need-add-lesser
+add-lesser c = omega (arith, c .over .ensures .1)
+
+lesser-requires : tie.Need-lesser-requires
+lesser-requires c κs = search needs
+
+returns-2 : tie.Need-returns-2
+unfolding recharged
+returns-2 c =
+    let start = c .before .before .before .before .before .before .args in
+    rw (lt-leb _ _ (c .before .before .before .if1 .left))
+    (ap (withA (start .self)) (c .lesser .ensures ∙ ap (λ (gain : ℕ). min (start .r .nominal) (start .self .a + gain)) (c .before .over .ensures .0)))
+
+pub recharged-spec : {M : Type 1} → statement M
+recharged-spec =
+    tie.close
+    (tie.spec
+    in-state-requires
+    returns
+    cast-lesser
+    over-requires
+    add-lesser
+    lesser-requires
+    returns-2)

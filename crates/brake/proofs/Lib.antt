@@ -1,0 +1,6 @@
+-- Laws of the air brakes.
+pub mod Falls
+pub mod Sound
+pub mod Tested
+pub mod Figures
+pub mod Unique

@@ -1,0 +1,52 @@
+-- What a sample brings, counted from the one before. Definitions only.
+use Prim.Native.Nat.{ℕ, _-_, _/_}
+use mathlib.Core.Bool.{Bool, cond, _||_}
+use lib.Dec.{ltb}
+use lib.IntN.{ℤ, pos, negℤ, _-ℤ_}
+use lib.Signed.{ltZ, leZ}
+use Rattle.whole.specs.Floor.{floorDiv}
+use Rattle.consist.specs.declared.Consist.{Consist}
+use Rattle.sample.specs.declared.RearPressure.{RearPressure}
+use Rattle.sample.specs.declared.RearPressure.the-variants.{Present, Lost}
+use Rattle.brake.specs.declared.Brake.{Brake}
+use Rattle.brake.specs.declared.Reading.{Reading}
+
+-- "A first sample counts rate 0 and 0 seconds elapsed." The seconds are those since the last accepted sample.
+abbrev pub elapsedOf : Brake → ℕ → ℕ
+elapsedOf k time = cond (k .sampled) (time - k .«last_time») 0
+
+-- "Otherwise rate is (front minus last front) divided by the elapsed seconds, down."
+abbrev pub rateOf : Brake → ℕ → ℕ → ℤ
+rateOf k time front = cond (k .sampled) (floorDiv (pos front -ℤ pos (k .«last_front»)) (pos (elapsedOf k time))) (pos 0)
+
+-- "A lost rear counts as the last rear, or as front in the first sample"
+abbrev pub rearOf : Brake → ℕ → RearPressure → ℕ
+rearOf k front (Present rear) = rear
+rearOf k front Lost = cond (k .sampled) (k .«last_rear») front
+
+-- "Nominal = set minus half of (front minus rear), the half down; the difference is 0 where rear is higher, and nominal is not below 0":
+-- a difference of natural numbers is 0 where it would be below 0
+abbrev pub nominalOf : ℕ → ℕ → ℕ → ℕ
+nominalOf set front rear = set - (front - rear) / 2
+
+-- what the rules read of a sample
+unfoldable pub readingOf : Consist → Brake → ℕ → ℕ → RearPressure → Reading
+readingOf c k time front rear = record {
+  elapsed = elapsedOf k time;
+  rate = rateOf k time front;
+  front = front;
+  rear = rearOf k front rear;
+  nominal = nominalOf (c .set) front (rearOf k front rear);
+}
+
+-- "Application means rate below -100 or hold minus front above 300."
+abbrev pub application : Brake → Reading → Bool
+application k r = ltZ (r .rate) (negℤ (pos 100)) || ltb 300 (k .hold - r .front)
+
+-- "Release means rate above 100."
+abbrev pub release : Reading → Bool
+release r = ltZ (pos 100) (r .rate)
+
+-- "emergency on a fall of 15 psi in a second or faster": "rate is -1,500 or lower"
+abbrev pub emergency : Reading → Bool
+emergency r = leZ (r .rate) (negℤ (pos 1500))

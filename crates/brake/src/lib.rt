@@ -1,0 +1,114 @@
+// The air brakes, once a sample.
+mod invariant;
+mod numbers;
+mod readings;
+mod rules;
+mod states;
+
+use consist::Consist;
+use sample::RearPressure;
+ghost use mathlib.Core.Path.{_≡_};
+ghost use Rattle.brake.specs.State.{stateNumber};
+ghost use Rattle.brake.specs.Brake.{opened};
+ghost use Rattle.brake.specs.Rules.{updateOf};
+ghost use Rattle.brake.specs.Sound.{Ready};
+
+pub enum State {
+    Charged,
+    ApplyingService,
+    HoldingService,
+    ApplyingEmergency,
+    HoldingEmergency,
+    Charging,
+}
+
+// What is held from sample to sample, pressures in hundredths of a psi. The set pressure is the consist's.
+pub struct Brake {
+    pub state: State,
+    // pipe pressure
+    pub hold: u16,
+    // average auxiliary reservoir
+    pub a: u16,
+    // average cylinder
+    pub b: u16,
+    pub equalization: u16,
+    // per second
+    pub fall: u16,
+    pub last_front: u16,
+    pub last_rear: u16,
+    // seconds
+    pub last_time: u32,
+    // whether a sample was yet accepted
+    pub sampled: bool,
+}
+
+// What the rules read of a sample.
+pub(crate) struct Reading {
+    // seconds
+    pub(crate) elapsed: u32,
+    // hundredths of a psi per second
+    pub(crate) rate: i64,
+    pub(crate) front: u16,
+    pub(crate) rear: u16,
+    pub(crate) nominal: u16,
+}
+
+// The state's number, as a decision carries it.
+pub fn state_number(s: State) -> u8
+    ensures { λ n. ⌜ n ≡ stateNumber s ⌝ }
+{
+    match s {
+        State::Charged => 0,
+        State::ApplyingService => 1,
+        State::HoldingService => 2,
+        State::ApplyingEmergency => 3,
+        State::HoldingEmergency => 4,
+        State::Charging => 5,
+    }
+}
+
+impl Brake {
+    // Application: a rate below this,
+    pub const APPLICATION_RATE: i64 = -100;
+
+    // or hold above front by more than this.
+    pub const APPLICATION_DROP: u16 = 300;
+
+    // Release: a rate above this.
+    pub const RELEASE_RATE: i64 = 100;
+
+    // Emergency: this rate or a lower one.
+    pub const EMERGENCY_RATE: i64 = -1_500;
+
+    // The brake of a new session.
+    pub fn opened(c: Consist) -> Self
+        ensures { λ r. ⌜ r ≡ opened c ⌝ }
+    {
+        Self {
+            state: State::Charged,
+            hold: c.set,
+            a: c.set,
+            b: 0,
+            equalization: 0,
+            fall: 0,
+            last_front: 0,
+            last_rear: 0,
+            last_time: 0,
+            sampled: false,
+        }
+    }
+
+    // The brake after one accepted sample, of which no rule reads more than these.
+    pub fn updated(self, c: Consist, time: u32, front: u16, rear: RearPressure) -> Self
+        requires { ⌜ Ready c self ⌝ }
+        ensures { λ k. ⌜ k ≡ updateOf c self time front rear ⌝ }
+    {
+        let r = self.reading(c, time, front, rear);
+        let mut next = self.ruled(c, r);
+        next.last_front = front;
+        next.last_rear = r.rear;
+        next.last_time = time;
+        next.sampled = true;
+        next
+    }
+}

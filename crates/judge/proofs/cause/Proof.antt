@@ -1,0 +1,116 @@
+-- `judge::cause` meets its contract. The loop's invariant: the cause is the first from k on. The measure is how many are left.
+-- Assumes nothing.
+use mathlib.Core.Path.{_≡_, sym, ap, _∙_}
+use mathlib.Core.Bool.{Bool, true, false}
+use mathlib.Core.Logic.{⊎-elim}
+use Prim.Native.Nat.{ℕ, suc, _+_, _-_, _≤_, _<_, min}
+use native.Mathlib.Numerals.{add-one}
+use native.Mathlib.Omega.{arith}
+use borrow.Author.Needs.{needs}
+use Rattle.judge.specs.Judge.{calls, firstFrom, causeOf}
+use Rattle.judge.proofs.Causes.{first-here, first-later}
+use Rattle.judge.proofs.cause.Statement.{statement}
+use Rattle.judge.proofs.cause.Tie as tie
+
+-- the first of n, from k on, where b says whether it is k
+module _ (f : ℕ → Bool) (k n : ℕ) {b : Bool} (h : k < n) (e : b ≡ f k) where
+  one-more : n - k ≡ suc (n - (k + 1))
+  one-more = omega arith
+
+  found : b ≡ true → firstFrom f k (n - k) ≡ k + 1
+  found t = rw one-more (first-here f k (n - (k + 1)) e t ∙ sym (add-one k))
+
+  not-here : b ≡ false → firstFrom f k (n - k) ≡ firstFrom f (k + 1) (n - (k + 1))
+  not-here t = rw (one-more, add-one k) (first-later f k (n - suc k) e t)
+
+none-left : (f : ℕ → Bool) (k n : ℕ) → n ≤ k → firstFrom f k (n - k) ≡ 0
+unfolding firstFrom
+none-left f k n h = let z : n - k ≡ 0 = omega arith in rw z
+
+abbrev Inv-loop : tie.InvT-loop
+Inv-loop offset head speed count locations speeds places n k₀ k =
+    (n ≤ 8) × (k ≤ n) × (causeOf offset head speed count locations speeds places ≡ firstFrom (calls offset head speed locations speeds places) k (n - k))
+
+abbrev μ-loop : tie.MeasureT-loop
+μ-loop offset head speed count locations speeds places n k₀ k = n - k
+
+loop-holds : tie.Need-loop-holds Inv-loop μ-loop
+unfolding causeOf
+loop-holds c =
+    let a = c .before .args in
+    let e : min (a .count) 8 ≡ c .if1 .n = ⊎-elim (λ w. omega arith) (λ w. omega arith) (c .if1 .came) in (
+      omega arith,
+      omega arith,
+      ap (λ (m : ℕ). firstFrom (calls (a .offset) (a .head) (a .speed) (a .t5) (a .t6) (a .t7)) 0 m) (omega arith),
+    )
+
+mul-is-called : tie.Need-mul-is-called Inv-loop μ-loop
+mul-is-called c = omega arith
+
+array-read-is-called : tie.Need-array-read-is-called Inv-loop μ-loop
+array-read-is-called c = omega arith
+
+mul-is-called-2 : tie.Need-mul-is-called-2 Inv-loop μ-loop
+mul-is-called-2 c = omega arith
+
+array-read-is-called-2 : tie.Need-array-read-is-called-2 Inv-loop μ-loop
+array-read-is-called-2 c = omega arith
+
+mul-is-called-3 : tie.Need-mul-is-called-3 Inv-loop μ-loop
+mul-is-called-3 c = omega arith
+
+array-read-is-called-3 : tie.Need-array-read-is-called-3 Inv-loop μ-loop
+array-read-is-called-3 c = omega arith
+
+is-called-requires : tie.Need-is-called-requires Inv-loop μ-loop
+is-called-requires c κs = search needs
+
+cast-result : tie.Need-cast-result Inv-loop μ-loop
+cast-result c = omega arith
+
+add-result : tie.Need-add-result Inv-loop μ-loop
+add-result c = omega arith
+
+returns : tie.Need-returns Inv-loop μ-loop
+returns c =
+    let l = c .before .before .before .loop in
+    sym (l .inv .2 ∙ found _ (l .k) _ (omega arith) (c .before .is-called .ensures) (c .if2 .taken))
+
+add-k : tie.Need-add-k Inv-loop μ-loop
+add-k c = omega arith
+
+loop-less : tie.Need-loop-less Inv-loop μ-loop
+loop-less c = omega arith
+
+loop-again : tie.Need-loop-again Inv-loop μ-loop
+loop-again c =
+    let l = c .before .before .before .loop in (
+      omega arith,
+      omega arith,
+      l .inv .2 ∙ not-here _ (l .k) _ (omega arith) (c .before .is-called .ensures) (c .if2 .left),
+    )
+
+returns-2 : tie.Need-returns-2 Inv-loop μ-loop
+returns-2 c = let l = c .before .loop in sym (l .inv .2 ∙ none-left _ (l .k) _ (omega arith))
+
+pub cause-spec : {M : Type 1} → statement M
+cause-spec =
+    tie.close
+    (tie.spec
+    Inv-loop
+    μ-loop
+    loop-holds
+    mul-is-called
+    array-read-is-called
+    mul-is-called-2
+    array-read-is-called-2
+    mul-is-called-3
+    array-read-is-called-3
+    is-called-requires
+    cast-result
+    add-result
+    returns
+    add-k
+    loop-less
+    loop-again
+    returns-2)

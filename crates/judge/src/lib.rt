@@ -1,0 +1,45 @@
+// The judgement of targets: the offset, which are judged, the call for the penalty and its cause.
+ghost use mathlib.Core.Path.{_≡_};
+ghost use Rattle.judge.specs.Judge.{offsetFor, isCalled, causeOf};
+
+// The offset in feet, of a train with speed v before a target with speed u.
+pub fn offset_for(offset: u16, v: u16, u: u16) -> u64
+    ensures { λ r. ⌜ r ≡ offsetFor offset v u ⌝ }
+{
+    if v <= u {
+        return 0;
+    }
+    let vv = v as u64 * v as u64;
+    let uu = u as u64 * u as u64;
+    whole::ceil_div(offset as u64 * (vv - uu), vv)
+}
+
+// Whether the penalty is called for the target at `target` with speed u, where `place` is the location for u.
+fn is_called(offset: u16, head: u32, v: u16, target: u32, u: u16, place: u32) -> bool
+    ensures { λ r. ⌜ r ≡ isCalled offset head v target u place ⌝ }
+{
+    let past = place as u64 + offset_for(offset, v, u);
+    (head <= target) & (target as u64 <= head as u64 + 32_768) & ((target as u64) < past)
+}
+
+// The first of `count` targets, 8 at most, for which the penalty is called, counted from 1; 0 for none.
+// `places` has the location for the speed of each.
+pub fn cause(
+    offset: u16,
+    head: u32,
+    speed: u16,
+    count: usize,
+    locations: [u32; 8],
+    speeds: [u16; 8],
+    places: [u32; 8],
+) -> u8
+    ensures { λ r. ⌜ r ≡ causeOf offset head speed count locations speeds places ⌝ }
+{
+    let n: usize = if count < 8 { count } else { 8 };
+    for k in 0..n {
+        if is_called(offset, head, speed, locations[k], speeds[k], places[k]) {
+            return k as u8 + 1;
+        }
+    }
+    0
+}

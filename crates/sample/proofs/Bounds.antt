@@ -1,0 +1,35 @@
+-- A judged sample's fields are within their bounds. Assumes nothing.
+use mathlib.Core.Path.{_≡_, sym, subst}
+use mathlib.Core.Bool.{false}
+use Rattle.hundredths.specs.Reading.{mostSpeed, mostPressure}
+use Rattle.hundredths.specs.declared.Rounding.the-variants.{Up, Down}
+use Rattle.hundredths.proofs.Accepted.{hundredths-most}
+use Rattle.sample.specs.declared.Rear.{Rear}
+use Rattle.sample.specs.declared.Rear.the-variants.{Present, Lost}
+use Rattle.sample.specs.declared.RawSample.{RawSample}
+use Rattle.sample.specs.Sample.{tooWide, badRear, badReading, rearInHundredths, sampleOf}
+use Rattle.sample.specs.Bounds.{RearBounded, Bounded, JudgedBounded}
+use Rattle.sample.proofs.Steps.{narrow, each-good, laid-narrow}
+use Rattle.sample.proofs.Answers.{laid-out, judged-accepted}
+
+rear-bounded : (r : Rear) → badRear r ≡ false → RearBounded (rearInHundredths r)
+rear-bounded (Present x) h = hundredths-most Down mostPressure x h
+rear-bounded Lost h = tt
+
+bounded : (raw : RawSample) → tooWide raw ≡ false → badReading raw ≡ false → Bounded (sampleOf raw)
+bounded raw w b =
+    let n = narrow raw w in
+    let g = each-good raw b in
+    record {
+      time = n .0;
+      head = n .1;
+      speed = hundredths-most Up mostSpeed (raw .speed) (g .0);
+      front = hundredths-most Down mostPressure (raw .front) (g .1);
+      rear = rear-bounded (raw .rear) (g .2);
+    }
+
+pub judged-bounded : JudgedBounded
+unfolding JudgedBounded
+judged-bounded s raw x l h =
+    let j = judged-accepted raw x h in
+    subst Bounded (sym (j .1)) (bounded raw (laid-narrow s raw (laid-out s raw l)) (j .0))

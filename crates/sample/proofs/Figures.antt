@@ -1,0 +1,26 @@
+-- The sample's figures, computed. Assumes nothing.
+use mathlib.Core.Path.{refl}
+use lib.Ieee.{isNan, ofBits, toBits}
+use Rattle.hundredths.specs.Reading.{hundredthsOf, outOfRange}
+use Rattle.refusal.specs.Lowest.{lowest}
+use Rattle.sample.specs.Sample.{rawIn, bytesOf, wrongLength, wrongMark, badReading, layOut, judgeSample, readSample}
+use Rattle.sample.specs.Figures.{Figures}
+
+pub figures : Figures
+unfolding rawIn bytesOf wrongLength wrongMark badReading layOut judgeSample readSample lowest hundredthsOf outOfRange toBits ofBits isNan
+figures = record {
+  written = refl;
+  read = refl;
+  judgement = refl;
+  lost = refl;
+  lost-judged = refl;
+  lost-not-zero = refl;
+  minus-zero = refl;
+  minus-zero-judged = refl;
+  minus-zero-written = refl;
+  nan-laid-out = refl;
+  nan-read = refl;
+  a-byte-more = refl;
+  other-mark = refl;
+  spare-set = refl;
+}

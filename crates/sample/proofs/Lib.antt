@@ -1,0 +1,9 @@
+-- Laws of the sample's reader, judge and writer.
+pub mod Steps
+pub mod FourWords
+pub mod Answers
+pub mod RoundTrip
+pub mod Exactly
+pub mod Bounds
+pub mod Figures
+pub mod Unique

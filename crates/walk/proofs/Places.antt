@@ -1,0 +1,163 @@
+-- One pass for the stop and for eight target speeds: what it keeps true from step to step, and what it answers as it ends.
+-- Assumes nothing.
+use mathlib.Core.Path.{_≡_, refl, sym, ap, ap₂, _∙_}
+use mathlib.Core.Bool.{Bool, true, false, cond, _&&_}
+use mathlib.Core.List.{List, [], _∷_, map}
+use mathlib.Core.Logic.{_⊎_, inl, inr, ⊎-elim}
+use Prim.Native.Nat.{ℕ, suc, _+_, _*_, _-_, _≤_, _<_}
+use native.Mathlib.Nat.{zero-lt-suc}
+use native.Mathlib.Omega.{arith}
+use lib.Dec.{leb, eqb}
+use lib.ListN.{length, getD, replicate, getD-replicate}
+use borrow.Author.Tests.{eqb-true, eq-eqb, ne-eqb, leb-true, leb-false, lt-leb}
+use Rattle.whole.specs.Root.{rootOf}
+use Rattle.whole.proofs.Roots.{root-pos}
+use Rattle.consist.specs.declared.Consist.{Consist}
+use Rattle.walk.specs.declared.Run.{Run}
+use Rattle.walk.specs.Step.{Ground, stepOf}
+use Rattle.walk.specs.Walk.{Place, at, never, fast, walkTo, start, placeFor, locationOf, isFast, predictOf}
+use Rattle.walk.specs.Range.{timeMost}
+use Rattle.walk.specs.Marks.{none, markOf, Marked, Open, predictionOf}
+use Rattle.walk.proofs.Equations.{walk-fast, walk-at, walk-never, walk-on}
+use Rattle.walk.proofs.Bounds.{time-most}
+
+-- ---- one target speed u, whose location is l
+
+-- where a walk of n more steps from r first is slow enough
+abbrev pub toCome : Consist → (ℕ → ℕ) → Ground → ℕ → ℕ → Run → ℕ
+toCome c force ground u n r = locationOf (walkTo c force ground (u * u) n r)
+
+-- l is what is found at the place already, or what is to come
+pub record Sought (c : Consist) (force : ℕ → ℕ) (ground : Ground) (u l n : ℕ) (r : Run) (place : ℕ) : Type 0 where
+  pub is : l ≡ cond (eqb place none) (toCome c force ground u n r) place
+
+-- the place holds it; or it is open, and the run is above the speed
+abbrev Held : ℕ → ℕ → ℕ → ℕ → ℕ → Type 0
+Held u l q place later = ((eqb place none ≡ false) × (place ≡ l)) ⊎ ((place ≡ none) × (u * u < q) × (l ≡ later))
+
+module _ {c : Consist} {force : ℕ → ℕ} {ground : Ground} {u l n : ℕ} {r : Run} {place : ℕ} (sought : Sought c force ground u l n r place) where
+  -- a walk that is too fast finds no more
+  found-fast : 1000000000 < r .q → place ≡ l
+  found-fast h = go (eqb place none) refl (sought .is)
+    where
+      go : (b : Bool) → eqb place none ≡ b → l ≡ cond b (toCome c force ground u n r) place → place ≡ l
+      go true e k = eqb-true place none e ∙ sym (k ∙ ap locationOf (walk-fast c force ground (u * u) r n h))
+      go false e k = sym k
+
+  module _ (slow : r .q ≤ 1000000000) (near : r .head < none) where
+    held : Held u l (r .q) (markOf r u place) (toCome c force ground u n r)
+    unfolding markOf
+    held = go (eqb place none) (leb (r .q) (u * u)) refl refl (sought .is)
+      where
+        go : (a b : Bool) → eqb place none ≡ a → leb (r .q) (u * u) ≡ b → l ≡ cond a (toCome c force ground u n r) place
+            → Held u l (r .q) (cond (a && b) (r .head) place) (toCome c force ground u n r)
+        go true true e f k =
+            inl (ne-eqb (r .head) none (λ z. omega arith), sym (k ∙ ap locationOf (walk-at c force ground (u * u) r n slow (leb-true _ _ f))))
+        go true false e f k = inr (eqb-true place none e, leb-false _ _ f, k)
+        go false b e f k = inl (e, sym k)
+
+    found-stop : r .q ≡ 0 → markOf r u place ≡ l
+    found-stop h = ⊎-elim (λ f. f .1) (λ f. absurd (omega (arith, f .1))) held
+
+    found-last : n ≡ 0 → markOf r u place ≡ l
+    found-last h =
+        ⊎-elim (λ f. f .1)
+        (λ f. f .0 ∙ sym (f .2 ∙ ap (λ (k : ℕ). toCome c force ground u k r) h ∙ ap locationOf (walk-never c force ground (u * u) r slow (f .1))))
+        held
+
+    sought-on : (k : ℕ) → n ≡ suc k → Sought c force ground u l k (stepOf c force ground r) (markOf r u place)
+    sought-on k h =
+        record {
+          is = ⊎-elim (λ f. rw (f .0) (sym (f .1)))
+              (λ f. rw (eq-eqb (markOf r u place) none (f .0))
+              (f .2 ∙ ap (λ (j : ℕ). toCome c force ground u j r) h ∙ ap locationOf (walk-on c force ground (u * u) r k slow (f .1))))
+              held;
+        }
+
+-- ---- all of them, and the stop
+
+-- n steps of a walk from `head` at the speed v have brought it to r
+pub record Walked (c : Consist) (force : ℕ → ℕ) (ground : Ground) (head v : ℕ) (speeds : List ℕ) (n : ℕ) (r : Run) (places : List ℕ) : Type 0 where
+  pub steps : n ≤ 2048
+  pub head-is : r .head ≡ head + 16 * n
+  pub clock-most : r .clock ≤ n * timeMost
+  pub size : length places ≡ 8
+  pub stop : placeFor c force ground head v 0 ≡ walkTo c force ground 0 (2048 - n) r
+  pub each : (i : ℕ) → i < 8 →
+      let u = getD speeds i 0 in Sought c force ground u (locationOf (placeFor c force ground head v u)) (2048 - n) r (getD places i 0)
+
+pub walk-begins : (c : Consist) (force : ℕ → ℕ) (ground : Ground) (head v : ℕ) (speeds : List ℕ)
+    → Walked c force ground head v speeds 0 (start head v) (replicate 8 none)
+unfolding placeFor
+walk-begins c force ground head v speeds =
+    record {
+      steps = omega arith;
+      head-is = omega arith;
+      clock-most = omega arith;
+      size = refl;
+      stop = refl;
+      each = λ i h. record { is = rw (getD-replicate 8 i none 0 h) };
+    }
+
+-- above every square that is open, nothing is marked
+pub unmarked : (r : Run) (speeds places : List ℕ) (next : ℕ) → length places ≡ 8 → Open speeds places next → next < r .q → Marked r speeds places places
+unfolding markOf
+unmarked r speeds places next size opened h = record { size = size; each = λ i k. go (getD places i 0) (getD speeds i 0) (opened .below i k) }
+  where
+    go : (p u : ℕ) → (p ≡ none → u * u ≤ next) → p ≡ markOf r u p
+    go p u l = by (eqb p none) refl
+      where
+        by : (b : Bool) → eqb p none ≡ b → p ≡ cond (b && leb (r .q) (u * u)) (r .head) p
+        by true e = let f = l (eqb-true p none e) in rw (lt-leb (r .q) (u * u) (omega arith))
+        by false e = refl
+
+mapped : (f : ℕ → ℕ) (us ps : List ℕ) → length ps ≡ length us → ((i : ℕ) → i < length us → getD ps i 0 ≡ f (getD us i 0)) → ps ≡ map f us
+mapped f [] [] e h = refl
+mapped f [] (p ∷ ps) e h = absurd (omega arith)
+mapped f (u ∷ us) [] e h = absurd (omega arith)
+mapped f (u ∷ us) (p ∷ ps) e h = ap₂ _∷_ (h 0 (zero-lt-suc _)) (mapped f us ps (omega arith) (λ i k. h (suc i) (omega arith)))
+
+module _ {c : Consist} {force : ℕ → ℕ} {ground : Ground} {head v : ℕ} {speeds : List ℕ} {n : ℕ} {r : Run} {places : List ℕ}
+    (eight : length speeds ≡ 8) (w : Walked c force ground head v speeds n r places) where
+  abbrev pub Answers : Place → List ℕ → Type 0
+  Answers p ps = predictionOf (isFast p) (locationOf p) ps ≡ predictOf c force ground head v speeds
+
+  -- from the stop's place and from every other
+  answer : (p : Place) (ps : List ℕ) → length ps ≡ 8 → placeFor c force ground head v 0 ≡ p
+      → ((i : ℕ) → i < 8 → getD ps i 0 ≡ locationOf (placeFor c force ground head v (getD speeds i 0))) → Answers p ps
+  unfolding predictOf
+  answer p ps size e h =
+      ap₂ (λ (q : Place) (qs : List ℕ). predictionOf (isFast q) (locationOf q) qs) (sym e)
+      (mapped (λ (u : ℕ). locationOf (placeFor c force ground head v u)) speeds ps (size ∙ sym eight) (λ i k. h i (omega arith)))
+
+  pub answer-fast : 1000000000 < r .q → Answers fast places
+  answer-fast h = answer fast places (w .size) (w .stop ∙ walk-fast c force ground 0 r (2048 - n) h) (λ i k. found-fast (w .each i k) h)
+
+  module _ {now : List ℕ} (marked : Marked r speeds places now) (slow : r .q ≤ 1000000000) (near : head ≤ 4000000) where
+    near-none : r .head < none
+    near-none = omega arith
+
+    pub answer-stop : r .q ≡ 0 → Answers (at (r .head)) now
+    answer-stop h =
+        answer (at (r .head)) now (marked .size) (w .stop ∙ walk-at c force ground 0 r (2048 - n) slow (omega arith))
+        (λ i k. marked .each i k ∙ found-stop (w .each i k) slow near-none h)
+
+    pub answer-never : 0 < r .q → n ≡ 2048 → Answers never now
+    answer-never h e =
+        let z : 2048 - n ≡ 0 = omega arith in
+        answer never now (marked .size)
+        (w .stop ∙ ap (λ (k : ℕ). walkTo c force ground 0 k r) z ∙ walk-never c force ground 0 r slow h)
+        (λ i k. marked .each i k ∙ found-last (w .each i k) slow near-none z)
+
+    pub walks-on : 0 < r .q → n < 2048 → Walked c force ground head v speeds (n + 1) (stepOf c force ground r) now
+    unfolding stepOf
+    walks-on h l =
+        let e : 2048 - n ≡ suc (2048 - (n + 1)) = omega arith in
+        record {
+          steps = omega arith;
+          head-is = omega arith;
+          clock-most = omega (arith, time-most (rootOf (r .q)) (root-pos (r .q) h));
+          size = marked .size;
+          stop = w .stop ∙ ap (λ (k : ℕ). walkTo c force ground 0 k r) e ∙ walk-on c force ground 0 r (2048 - (n + 1)) slow h;
+          each = λ i k. rw (marked .each i k) (sought-on (w .each i k) slow near-none (2048 - (n + 1)) e);
+        }

@@ -1,0 +1,181 @@
+-- `walk::pass` meets its contract: after each step, what is found at a place or the rest of the walk is what the whole walk finds.
+-- Assumes nothing.
+use mathlib.Core.Path.{_≡_, refl, ap, _∙_}
+use Prim.Native.Nat.{ℕ, _-_, _≤_, _<_}
+use native.Mathlib.Omega.{arith}
+use mathlib.Core.List.{List}
+use mathlib.Core.Logic.{⊎-elim}
+use lib.ListN.{length}
+use Rattle.consist.specs.declared.Consist.{Consist}
+use Rattle.track.specs.declared.Track.{Track}
+use Rattle.track.specs.declared.Under.{Under}
+use Rattle.track.specs.Track.{underOf}
+use Rattle.track.specs.Steps.{trackOf}
+use Rattle.track.proofs.Gentle.{gentle-grade, gentle-curve}
+use Rattle.walk.specs.Curve.{forceAt}
+use Rattle.walk.specs.declared.Run.{Run}
+use Rattle.walk.specs.Step.{groundOf, stepOf}
+use Rattle.walk.specs.Marks.{Marked, Open, even}
+use Rattle.walk.proofs.Places.{Walked, walk-begins, unmarked, answer-fast, answer-stop, answer-never, walks-on}
+use Rattle.walk.proofs.pass.Statement.{statement}
+use Rattle.walk.proofs.pass.Tie as tie
+
+abbrev Inv-loop : tie.InvT-loop
+Inv-loop c curve count starts grades curvatures head speed speeds length run₀ places₀ next₀ n₀ run places next n =
+    Walked c (forceAt (c .rated) curve) (groundOf (trackOf count starts grades curvatures) (c .length)) head speed speeds n run places
+    × Open speeds places next
+
+abbrev μ-loop : tie.MeasureT-loop
+μ-loop c curve count starts grades curvatures head speed speeds length run₀ places₀ next₀ n₀ run places next n = 2048 - n
+
+carried : {r : Run} {speeds before places places′ : List ℕ} {next next′ : ℕ} → places′ ≡ places → next′ ≡ next
+    → Marked r speeds before places → Open speeds places next → Marked r speeds before places′ × Open speeds places′ next′
+carried e f m o = rw (e, f) (m, o)
+
+-- where both arms of the marking meet
+module _ (c : tie.Joined2 Inv-loop μ-loop) where
+  abbrev here : tie.At-loop Inv-loop μ-loop
+  here = c .before .before .before .before
+
+  abbrev entry : tie.Start Inv-loop μ-loop
+  entry = here .before .before .before .before
+
+  marks : Marked (here .loop .run) (entry .args .speeds) (here .loop .places) (c .if2 .places) × Open (entry .args .speeds) (c .if2 .places) (c .if2 .next)
+  marks =
+      let i = here .loop .inv in
+      ⊎-elim (λ w. carried (w .3) (w .4) (w .1 .ensures) (w .2 .ensures))
+      (λ w. carried (w .1) (w .2) (unmarked _ _ _ _ (i .0 .size) (i .1) (w .0 .left)) (i .1))
+      (c .if2 .came)
+
+  slow : here .loop .run .q ≤ 1000000000
+  slow = c .before .before .if1 .left
+
+eight : (c : tie.Start Inv-loop μ-loop) → length (c .args .speeds) ≡ 8
+eight c = omega arith
+
+-- past the tests: the run has a step to make
+module _ (c : tie.Else4 Inv-loop μ-loop) where
+  abbrev joined : tie.Joined2 Inv-loop μ-loop
+  joined = c .before .before .before
+
+  steps-left : here joined .loop .n < 2048
+  steps-left = omega (arith, here joined .loop .inv .0 .steps, c .if4 .left)
+
+  moves : 0 < here joined .loop .run .q
+  moves = omega (arith, c .before .if3 .left)
+
+-- the step over the ground under the train is the step over the track
+over-track : (c : Consist) (force : ℕ → ℕ) (t : Track) (length : ℕ) (r : Run)
+    → stepOf c force (even (underOf t (r .head) length)) r ≡ stepOf c force (groundOf t length) r
+unfolding stepOf
+over-track c force t length r = refl
+
+cast-length : tie.Need-cast-length Inv-loop μ-loop
+cast-length c = omega arith
+
+started-requires : tie.Need-started-requires Inv-loop μ-loop
+started-requires c κs = tt
+
+next-mark-requires : tie.Need-next-mark-requires Inv-loop μ-loop
+next-mark-requires c κs = tt
+
+loop-holds : tie.Need-loop-holds Inv-loop μ-loop
+loop-holds c =
+    let a = c .before .before .before .args in
+    (rw (c .before .started .ensures) (walk-begins (a .c) _ _ (a .head) (a .speed) (a .speeds)), c .next-mark .ensures)
+
+predicted-requires : tie.Need-predicted-requires Inv-loop μ-loop
+predicted-requires c κs = tt
+
+returns : tie.Need-returns Inv-loop μ-loop
+returns c =
+    let l = c .before .before .before in
+    c .predicted .ensures ∙ answer-fast (eight (l .before .before .before .before)) (l .loop .inv .0) (c .before .if1 .taken)
+
+marked-requires : tie.Need-marked-requires Inv-loop μ-loop
+marked-requires c κs = tt
+
+next-mark-requires-2 : tie.Need-next-mark-requires-2 Inv-loop μ-loop
+next-mark-requires-2 c κs = tt
+
+predicted-requires-2 : tie.Need-predicted-requires-2 Inv-loop μ-loop
+predicted-requires-2 c κs = tt
+
+returns-2 : tie.Need-returns-2 Inv-loop μ-loop
+returns-2 c =
+    let j = c .before .before .before in
+    c .predicted2 .ensures ∙ answer-stop (eight (entry j)) (here j .loop .inv .0) (marks j .0) (slow j) (entry j .pre .head) (c .before .if3 .taken)
+
+predicted-requires-3 : tie.Need-predicted-requires-3 Inv-loop μ-loop
+predicted-requires-3 c κs = tt
+
+returns-3 : tie.Need-returns-3 Inv-loop μ-loop
+returns-3 c =
+    let b = c .before .before in
+    let j = b .before .before in
+    c .predicted3 .ensures
+    ∙ answer-never (eight (entry j)) (here j .loop .inv .0) (marks j .0) (slow j) (entry j .pre .head) (omega (arith, b .if3 .left)) (c .before .if4 .taken)
+
+under-train-requires : tie.Need-under-train-requires Inv-loop μ-loop
+under-train-requires c κs = tt
+
+stepped-requires : tie.Need-stepped-requires Inv-loop μ-loop
+stepped-requires c κs =
+    let j = joined (c .before) in
+    let s = entry j in
+    let r = here j .loop .run in
+    let w = here j .loop .inv .0 in
+    record {
+      rated = s .pre .rated;
+      applied = record { curve = s .pre .curve; clock = omega (arith, w .clock-most, w .steps) };
+      grade = rw (c .under-train .ensures) (gentle-grade _ (s .pre .track) (r .head) (s .args .c .length));
+      curvature = rw (c .under-train .ensures) (gentle-curve _ (s .pre .track) (r .head) (s .args .c .length));
+      head = omega (arith, w .head-is, w .steps, s .pre .head);
+      some = moves (c .before);
+      slow = slow j;
+    }
+
+add-n : tie.Need-add-n Inv-loop μ-loop
+add-n c = omega (arith, steps-left (c .before .before))
+
+loop-less : tie.Need-loop-less Inv-loop μ-loop
+loop-less c = omega (arith, steps-left (c .before .before))
+
+loop-again : tie.Need-loop-again Inv-loop μ-loop
+loop-again c =
+    let e = c .before .before in
+    let j = joined e in
+    let s = entry j in
+    let r = here j .loop .run in
+    let a = s .args in (
+      rw
+          (c .stepped .ensures
+          ∙ ap (λ (u : Under). stepOf (a .c) (forceAt (a .c .rated) (a .curve)) (even u) r) (c .before .under-train .ensures)
+          ∙ over-track (a .c) (forceAt (a .c .rated) (a .curve)) _ (a .c .length) r)
+          (walks-on (eight s) (here j .loop .inv .0) (marks j .0) (slow j) (s .pre .head) (moves e) (steps-left e)),
+      marks j .1,
+    )
+
+pub pass-spec : {M : Type 1} → statement M
+pass-spec =
+    tie.close
+    (tie.spec
+    Inv-loop
+    μ-loop
+    cast-length
+    started-requires
+    next-mark-requires
+    loop-holds
+    predicted-requires
+    returns
+    marked-requires
+    next-mark-requires-2
+    predicted-requires-2
+    returns-2
+    predicted-requires-3
+    returns-3
+    under-train-requires
+    stepped-requires
+    add-n
+    loop-less
+    loop-again)

@@ -1,0 +1,35 @@
+-- How one pass keeps the locations for eight target speeds. Definitions only.
+use mathlib.Core.Path.{_≡_}
+use mathlib.Core.Bool.{Bool, cond, _&&_}
+use mathlib.Core.List.{List}
+use Prim.Native.Nat.{ℕ, _*_, _≤_, _<_}
+use lib.Dec.{leb, eqb}
+use lib.ListN.{length, getD}
+use Rattle.track.specs.declared.Under.{Under}
+use Rattle.walk.specs.declared.Run.{Run}
+use Rattle.walk.specs.declared.Prediction.{Prediction}
+use Rattle.walk.specs.Step.{Ground}
+use Rattle.walk.specs.Walk.{never, locationOf}
+
+-- a place that is open: its speed is not reached
+abbrev pub none : ℕ
+none = locationOf never
+
+-- the place for the speed u as the run comes by: open until the run is slow enough, and from then on its head there
+unfoldable pub markOf : Run → ℕ → ℕ → ℕ
+markOf r u place = cond (eqb place none && leb (r .q) (u * u)) (r .head) place
+
+pub record Marked (r : Run) (speeds before after : List ℕ) : Type 0 where
+  pub size : length after ≡ 8
+  pub each : (i : ℕ) → i < 8 → getD after i 0 ≡ markOf r (getD speeds i 0) (getD before i 0)
+
+-- no place that is open is for a speed whose square is above `next`
+pub record Open (speeds places : List ℕ) (next : ℕ) : Type 0 where
+  pub below : (i : ℕ) → i < 8 → getD places i 0 ≡ none → getD speeds i 0 * getD speeds i 0 ≤ next
+
+abbrev pub predictionOf : Bool → ℕ → List ℕ → Prediction
+predictionOf fast stop places = record { fast = fast; stop = stop; places = places }
+
+-- the ground that has these averages wherever the head is
+abbrev pub even : Under → Ground
+even u = record { grade = λ h. u .grade; curve = λ h. u .curvature }
