@@ -1,0 +1,96 @@
+/*
+ * second.h - the judging core of the second program (see second.c).
+ *
+ * "01" is the document that gives the rules.  Every quantity is a whole number
+ * in the units of 01: hundredths of a mph, hundredths of a psi, whole feet,
+ * hundredths of a percent, hundredths of a degree, whole tons.
+ */
+#ifndef SECOND_H
+#define SECOND_H
+
+#include <stddef.h>
+#include <stdint.h>
+
+enum {
+    SECOND_CONSIST_BYTES = 16,
+    SECOND_PROFILE_BYTES = 6,   /* a record */
+    SECOND_TARGET_BYTES = 5,    /* a record */
+    SECOND_SAMPLE_BYTES = 20,
+    SECOND_DECISION_BYTES = 8,
+    SECOND_PROFILE_LEAST = 2,   /* records */
+    SECOND_PROFILE_MOST = 257,
+    SECOND_TARGETS_MOST = 8,
+    SECOND_NO_STOP = 16777215
+};
+
+/* The consist record. */
+typedef struct {
+    int64_t cars, axles, weight, length, rated, application, recharge, set, offset;
+} second_consist;
+
+/* What the air brakes hold from sample to sample. */
+typedef struct {
+    int64_t state, hold, a, b, equalization, fall, last_front, last_rear, last_time;
+} second_brakes;
+
+/* A session.  All zero is "no session is open". */
+typedef struct {
+    int open;
+    int begun;             /* a sample has been accepted */
+    second_consist train;
+    second_brakes brakes;
+    int64_t cause;         /* 0, or the place of the target that called */
+} second_session;
+
+/* The profile and the targets, read into numbers. */
+typedef struct {
+    int64_t records;
+    int64_t start[SECOND_PROFILE_MOST], grade[SECOND_PROFILE_MOST], curve[SECOND_PROFILE_MOST];
+} second_profile;
+
+typedef struct {
+    int64_t records;
+    int64_t location[SECOND_TARGETS_MOST], speed[SECOND_TARGETS_MOST];
+} second_targets;
+
+/* A sample, its readings in hundredths. */
+typedef struct {
+    int64_t time, head, speed, front, rear;
+    int rear_present;
+} second_sample;
+
+/* What the walks of one sample say. */
+typedef struct {
+    int64_t stop;          /* SECOND_NO_STOP for none */
+    int64_t cause;         /* the first calling target's place, 0 for none */
+} second_prediction;
+
+/* Opens a session.  0, or a refusal number (2, 4, 5) with the session as it was. */
+int second_open(second_session *session, const unsigned char *bytes, size_t count);
+
+/*
+ * Judges one sample.  0 with the decision in the first 8 bytes of output, or a
+ * refusal number with the session and the output as they were.
+ */
+int second_judge(second_session *session,
+                 const unsigned char *sample, size_t sample_count,
+                 const unsigned char *profile, size_t profile_count,
+                 const unsigned char *targets, size_t targets_count,
+                 unsigned char *output, size_t output_count);
+
+/* The readers the program itself uses.  0, or 6 and 7. */
+int second_read_profile(const unsigned char *bytes, size_t count, second_profile *profile);
+int second_read_targets(const unsigned char *bytes, size_t count, second_targets *targets);
+
+/*
+ * The prediction of one sample, 0 or 11: the brakes already updated, everything
+ * already judged.  It is called from one place only, second_judge.
+ */
+int second_predict(const second_session *session, const second_sample *sample,
+                   const second_profile *profile, const second_targets *targets,
+                   second_prediction *prediction);
+
+/* Field reading, for users of the decision's bytes. */
+int64_t second_bits(const unsigned char *bytes, int first, int width);
+
+#endif
