@@ -2,12 +2,12 @@
 use mathlib.Core.Path.{refl}
 use Rattle.whole.specs.Floor.{floorDiv}
 use Rattle.whole.specs.Ceiling.{ceilDiv}
-use Rattle.brake.specs.Readings.{readingOf}
+use Rattle.brake.specs.Readings.{elapsedOf, rateOf, rearOf, nominalOf, readingOf, application, release, emergency}
 use Rattle.brake.specs.Rules.{startEmergency, startService, startApplying, startCharging, fallInService, fallInEmergency, inCharged, recharged, inCharging, fallOrHold, inApplyingService, inHoldingService, inApplyingEmergency, inHoldingEmergency, updateOf}
 use Rattle.brake.specs.Figures.{Figures}
 
 pub figures : Figures
-unfolding floorDiv ceilDiv readingOf startEmergency startService startApplying startCharging fallInService fallInEmergency inCharged recharged inCharging fallOrHold inApplyingService inHoldingService inApplyingEmergency inHoldingEmergency updateOf
+unfolding floorDiv ceilDiv elapsedOf rateOf rearOf nominalOf readingOf application release emergency startEmergency startService startApplying startCharging fallInService fallInEmergency inCharged recharged inCharging fallOrHold inApplyingService inHoldingService inApplyingEmergency inHoldingEmergency updateOf
 figures = record {
   equalization = refl;
   emergency = refl;

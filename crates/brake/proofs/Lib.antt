@@ -1,4 +1,5 @@
 -- Laws of the air brakes.
+pub mod StateNumbers
 pub mod Falls
 pub mod Sound
 pub mod Tested

@@ -14,7 +14,7 @@ use Rattle.brake.specs.declared.State.the-variants.{Charged, ApplyingSer
 use Rattle.brake.specs.declared.Brake.{Brake}
 use Rattle.brake.specs.declared.Reading.{Reading}
 use Rattle.brake.specs.Brake.{opened, withState, withHold, withA, withLast}
-use Rattle.brake.specs.Readings.{rearOf, readingOf, application, release, emergency}
+use Rattle.brake.specs.Readings.{rearOf, nominalOf, readingOf, application, release, emergency}
 use Rattle.brake.specs.Rules.{startEmergency, startService, startApplying, startCharging, levelOf, fallInService, fallInEmergency, inCharged, recharged, inCharging, fallOrHold, inApplyingService, inHoldingService, inApplyingEmergency, inHoldingEmergency, ruleOf, updateOf}
 use Rattle.brake.specs.Sound.{mostPressure, mostTime, Balance, Sound, Ready, rearMost, InRange}
 use Rattle.brake.proofs.Falls.{service-fall-most, balanced}
@@ -149,6 +149,7 @@ module _ (c : Consist) (k : Brake) (r : Reading) (s : Ready c k) (nominal : r .n
 -- ---- the update
 
 rear-sound : (c : Consist) (k : Brake) (front : ℕ) (rear : RearPressure) → Sound c k → front ≤ mostPressure → rearMost rear → rearOf k front rear ≤ mostPressure
+unfolding rearOf
 rear-sound c k front (Present rear) s f h = h
 rear-sound c k front Lost s f h = go (k .sampled)
   where
@@ -158,7 +159,7 @@ rear-sound c k front Lost s f h = go (k .sampled)
 
 pub updated-sound : (c : Consist) (k : Brake) (time front : ℕ) (rear : RearPressure) → Ready c k → InRange time front rear
     → Sound c (updateOf c k time front rear)
-unfolding updateOf readingOf
+unfolding nominalOf readingOf updateOf
 updated-sound c k time front rear s h =
     last-sound c _ front _ time (h .front-most) (rear-sound c k front rear (s .brake) (h .front-most) (h .rear-most)) (h .time-most)
     (ruled-sound c k (readingOf c k time front rear) s (omega arith) (h .front-most) (k .state) refl)

@@ -12,21 +12,21 @@ use Rattle.brake.specs.declared.Brake.{Brake}
 use Rattle.brake.specs.declared.Reading.{Reading}
 
 -- "A first sample counts rate 0 and 0 seconds elapsed." The seconds are those since the last accepted sample.
-abbrev pub elapsedOf : Brake → ℕ → ℕ
+unfoldable pub elapsedOf : Brake → ℕ → ℕ
 elapsedOf k time = cond (k .sampled) (time - k .«last_time») 0
 
 -- "Otherwise rate is (front minus last front) divided by the elapsed seconds, down."
-abbrev pub rateOf : Brake → ℕ → ℕ → ℤ
+unfoldable pub rateOf : Brake → ℕ → ℕ → ℤ
 rateOf k time front = cond (k .sampled) (floorDiv (pos front -ℤ pos (k .«last_front»)) (pos (elapsedOf k time))) (pos 0)
 
 -- "A lost rear counts as the last rear, or as front in the first sample"
-abbrev pub rearOf : Brake → ℕ → RearPressure → ℕ
+unfoldable pub rearOf : Brake → ℕ → RearPressure → ℕ
 rearOf k front (Present rear) = rear
 rearOf k front Lost = cond (k .sampled) (k .«last_rear») front
 
 -- "Nominal = set minus half of (front minus rear), the half down; the difference is 0 where rear is higher, and nominal is not below 0":
 -- a difference of natural numbers is 0 where it would be below 0
-abbrev pub nominalOf : ℕ → ℕ → ℕ → ℕ
+unfoldable pub nominalOf : ℕ → ℕ → ℕ → ℕ
 nominalOf set front rear = set - (front - rear) / 2
 
 -- what the rules read of a sample
@@ -40,13 +40,13 @@ readingOf c k time front rear = record {
 }
 
 -- "Application means rate below -100 or hold minus front above 300."
-abbrev pub application : Brake → Reading → Bool
+unfoldable pub application : Brake → Reading → Bool
 application k r = ltZ (r .rate) (negℤ (pos 100)) || ltb 300 (k .hold - r .front)
 
 -- "Release means rate above 100."
-abbrev pub release : Reading → Bool
+unfoldable pub release : Reading → Bool
 release r = ltZ (pos 100) (r .rate)
 
 -- "emergency on a fall of 15 psi in a second or faster": "rate is -1,500 or lower"
-abbrev pub emergency : Reading → Bool
+unfoldable pub emergency : Reading → Bool
 emergency r = leZ (r .rate) (negℤ (pos 1500))

@@ -95,6 +95,14 @@ append-passed (x ∷ xs) ys h =
     let a = accepted (x .0) (x .1) xs h in
     passed (x .0) (x .1) (xs ++ ys) (a .0) ∙ append-passed xs ys (a .1)
 
+-- what is accepted breaks no rule of the first list
+pub append-accepted : (xs ys : List Rule) → lowest (xs ++ ys) ≡ Accepted → lowest xs ≡ Accepted
+unfolding lowest
+append-accepted [] ys h = refl
+append-accepted (x ∷ xs) ys h =
+    let a = accepted (x .0) (x .1) (xs ++ ys) h in
+    passed (x .0) (x .1) xs (a .0) ∙ append-accepted xs ys (a .1)
+
 -- every number of the second list is above every number of the first: computed, as `above` is
 abbrev pub before : List Rule → List Rule → Bool
 before [] ys = true

@@ -6,12 +6,11 @@ use lib.IntN.{ℤ, pos, natAbs, _+ℤ_, _*ℤ_}
 use Rattle.whole.specs.Root.{rootOf}
 use Rattle.whole.proofs.Roots.{root-is, sq-le}
 use Rattle.whole.proofs.Size.{abs-add, abs-times}
-use Rattle.whole.proofs.Floors.{abs-floor}
 use Rattle.consist.specs.declared.Consist.{Consist}
 use Rattle.track.specs.declared.Under.{Under}
 use Rattle.walk.specs.declared.Curve.{Curve}
 use Rattle.walk.specs.Curve.{dropAt, cylinderAt, forceAt, penaltyCurve}
-use Rattle.walk.specs.Step.{opposing, loss, stepTime}
+use Rattle.walk.specs.Step.{opposing, stepTime}
 use Rattle.walk.specs.Range.{Braking, Opposed, rootMost, timeMost}
 
 -- ---- the brake force
@@ -88,7 +87,3 @@ module _ {c : Consist} {f s q : ℕ} {u : Under} (w : Words c) (h : Opposed f s 
 
   pub scaled-most : natAbs (pos 1449 *ℤ opposing c f s q (u .grade) (u .curvature)) ≤ 2 ^ 62
   scaled-most = omega (arith, abs-times 1449 (opposing c f s q (u .grade) (u .curvature)), opposing-most)
-
-  pub loss-most : natAbs (loss c f s q (u .grade) (u .curvature)) ≤ 2 ^ 62
-  unfolding loss
-  loss-most = omega (arith, abs-floor (pos 1449 *ℤ opposing c f s q (u .grade) (u .curvature)) (pos (605000 * c .weight)), scaled-most)

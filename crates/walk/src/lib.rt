@@ -54,6 +54,7 @@ fn above(a: u64, b: u64) -> u64
 }
 
 impl Curve {
+    // The service application that a penalty makes, from the pressures A and B.
     pub fn penalty(c: Consist, a: u16, b: u16) -> Curve
         ensures { λ r. ⌜ r ≡ penaltyCurve c a b ⌝ }
     {
@@ -68,6 +69,7 @@ impl Curve {
         }
     }
 
+    // Of the auxiliary reservoirs, t ms after the brakes are applied.
     fn drop_at(self, t: u64) -> u64
         requires { ⌜ Applied self t ⌝ }
         ensures { λ r. ⌜ r ≡ dropAt self t ⌝ }
@@ -75,6 +77,7 @@ impl Curve {
         lesser(self.num * t / self.den, self.most)
     }
 
+    // p at the same time.
     fn cylinder(self, t: u64) -> u64
         requires { ⌜ Applied self t ⌝ }
         ensures { λ r. ⌜ r ≡ cylinderAt self t ⌝ }
@@ -82,6 +85,7 @@ impl Curve {
         self.base + self.gain * self.drop_at(t) / 2
     }
 
+    // F in lb, of a train with this rated force.
     pub fn force(self, rated: u32, t: u64) -> u64
         requires { ⌜ Applied self t ⌝ }
         ensures { λ r. ⌜ r ≡ forceAt rated self t ⌝ }
@@ -90,7 +94,7 @@ impl Curve {
     }
 }
 
-// In millionths of a lb.
+// In millionths of a lb, at s and q, over the ground u.
 fn opposing_force(c: Consist, f: u64, s: u64, q: u64, u: Under) -> i64
     requires { ⌜ Opposed f s q u ⌝ }
     ensures { λ r. ⌜ r ≡ opposing c f s q (u .grade) (u .curvature) ⌝ }
@@ -124,7 +128,7 @@ fn slowed(c: Consist, f: u64, s: u64, q: u64, u: Under) -> u64
     if rest <= 0 { 0 } else { rest as u64 }
 }
 
-// In ms.
+// What the clock gains, in ms.
 fn step_time(s: u64) -> u64
     requires { ⌜ (0 < s) × (s ≤ rootMost) ⌝ }
     ensures { λ r. ⌜ r ≡ stepTime s ⌝ }
@@ -259,6 +263,7 @@ fn pass<'a>(
     }
 }
 
+// Where the train stops, and where it is at or below each speed, from `head` on at `speed`.
 pub fn predict(
     c: Consist,
     curve: Curve,

@@ -3,6 +3,7 @@ use mathlib.Core.Path.{_≡_, sym, ap, _∙_}
 use mathlib.Core.Bool.{true}
 use mathlib.Core.List.{List}
 use Prim.Native.Nat.{ℕ}
+use native.Mathlib.Omega.{arith}
 use borrow.Author.Tests.{not-true, not-false}
 use Rattle.refusal.specs.declared.Verdict.the-variants as verdict
 use Rattle.targets.specs.Targets.{keptOf}
@@ -30,10 +31,10 @@ mul-if2 c = search needs
 returns-2 : tie.Need-returns-2
 returns-2 c =
     let a = c .before .before .before .before .before .before .args in
-    sym (write-room (a .locations .now) (a .speeds .now) (a .out .now) (past-rules (c .before)) (c .if2 .taken))
+    sym (write-room (a .locations .now) (a .speeds .now) (a .out .now) (past-rules (c .before)) (omega (arith, c .if2 .taken)))
 
 put-rows-requires : tie.Need-put-rows-requires
-put-rows-requires c κs = (rows _ _ (past-rules (c .before .before)) .speeds-all, c .before .if2 .left)
+put-rows-requires c κs = (rows _ _ (past-rules (c .before .before)) .speeds-all, omega (arith, c .before .if2 .left))
 
 same-length : tie.Need-same-length
 same-length c = search needs

@@ -1,6 +1,6 @@
 -- `walk::pass` meets its contract: after each step, what is found at a place or the rest of the walk is what the whole walk finds.
 -- Assumes nothing.
-use mathlib.Core.Path.{_≡_, refl, ap, _∙_}
+use mathlib.Core.Path.{_≡_, ap, _∙_}
 use Prim.Native.Nat.{ℕ, _-_, _≤_, _<_}
 use native.Mathlib.Omega.{arith}
 use mathlib.Core.List.{List}
@@ -40,6 +40,12 @@ module _ (c : tie.Joined2 Inv-loop μ-loop) where
   abbrev entry : tie.Start Inv-loop μ-loop
   entry = here .before .before .before .before
 
+  abbrev track : Track
+  track = let a = entry .args in trackOf (a .count) (a .starts .now) (a .grades .now) (a .curvatures .now)
+
+  abbrev force : ℕ → ℕ
+  force = forceAt (entry .args .c .rated) (entry .args .curve)
+
   marks : Marked (here .loop .run) (entry .args .speeds) (here .loop .places) (c .if2 .places) × Open (entry .args .speeds) (c .if2 .places) (c .if2 .next)
   marks =
       let i = here .loop .inv in
@@ -65,10 +71,10 @@ module _ (c : tie.Else4 Inv-loop μ-loop) where
   moves = omega (arith, c .before .if3 .left)
 
 -- the step over the ground under the train is the step over the track
-over-track : (c : Consist) (force : ℕ → ℕ) (t : Track) (length : ℕ) (r : Run)
-    → stepOf c force (even (underOf t (r .head) length)) r ≡ stepOf c force (groundOf t length) r
+over-track : (c : Consist) (force : ℕ → ℕ) (t : Track) (length : ℕ) (r r′ : Run) (u : Under)
+    → r′ ≡ stepOf c force (even u) r → u ≡ underOf t (r .head) length → r′ ≡ stepOf c force (groundOf t length) r
 unfolding stepOf
-over-track c force t length r = refl
+over-track c force t length r r′ u e f = e ∙ ap (λ (x : Under). stepOf c force (even x) r) f
 
 cast-length : tie.Need-cast-length Inv-loop μ-loop
 cast-length c = omega arith
@@ -128,8 +134,8 @@ stepped-requires c κs =
     record {
       rated = s .pre .rated;
       applied = record { curve = s .pre .curve; clock = omega (arith, w .clock-most, w .steps) };
-      grade = rw (c .under-train .ensures) (gentle-grade _ (s .pre .track) (r .head) (s .args .c .length));
-      curvature = rw (c .under-train .ensures) (gentle-curve _ (s .pre .track) (r .head) (s .args .c .length));
+      grade = rw (c .under-train .ensures) (gentle-grade (track j) (s .pre .track) (r .head) (s .args .c .length));
+      curvature = rw (c .under-train .ensures) (gentle-curve (track j) (s .pre .track) (r .head) (s .args .c .length));
       head = omega (arith, w .head-is, w .steps, s .pre .head);
       some = moves (c .before);
       slow = slow j;
@@ -146,12 +152,8 @@ loop-again c =
     let e = c .before .before in
     let j = joined e in
     let s = entry j in
-    let r = here j .loop .run in
-    let a = s .args in (
-      rw
-          (c .stepped .ensures
-          ∙ ap (λ (u : Under). stepOf (a .c) (forceAt (a .c .rated) (a .curve)) (even u) r) (c .before .under-train .ensures)
-          ∙ over-track (a .c) (forceAt (a .c .rated) (a .curve)) _ (a .c .length) r)
+    let r = here j .loop .run in (
+      rw (over-track (s .args .c) (force j) (track j) (s .args .c .length) r _ _ (c .stepped .ensures) (c .before .under-train .ensures))
           (walks-on (eight s) (here j .loop .inv .0) (marks j .0) (slow j) (s .pre .head) (moves e) (steps-left e)),
       marks j .1,
     )

@@ -1,21 +1,31 @@
 -- `walk::slowed` meets its contract: what is left of q is a word that holds it, cut at zero. Assumes nothing.
 use mathlib.Core.Path.{_≡_, _∙_}
-use Prim.Native.Nat.{_^_, _<_}
+use Prim.Native.Nat.{ℕ, _*_, _^_, _≤_, _<_}
+use native.Mathlib.Nat.{le-trans}
 use native.Mathlib.Omega.{arith}
-use lib.IntN.{ℤ, pos, natAbs, _-ℤ_}
+use lib.IntN.{ℤ, pos, natAbs, _-ℤ_, _*ℤ_}
 use mir.Syntax.{w64}
 use mir.Val.{SFits, toZ, ofZ}
 use mir.Facts.{toZ-ofZ}
+use Rattle.consist.specs.declared.Consist.{Consist}
+use Rattle.track.specs.declared.Under.{Under}
 use Rattle.whole.specs.Floor.{cut}
 use Rattle.whole.proofs.Parts.{AtMost, up-mono}
 use Rattle.whole.proofs.Order.{leZ-true, leZ-false}
 use Rattle.whole.proofs.Size.{abs-sub, abs-parts, fits-abs}
+use Rattle.whole.proofs.Floors.{abs-floor}
 use Rattle.whole.proofs.Words.{Holds, nat-holds, op-fits, op-holds, unsigned-is, unsigned-fits}
-use Rattle.walk.specs.Step.{loss}
-use Rattle.walk.proofs.Bounds.{Words, loss-most}
+use Rattle.walk.specs.Step.{opposing, loss}
+use Rattle.walk.specs.Range.{Opposed}
+use Rattle.walk.proofs.Bounds.{Words, scaled-most}
 use borrow.Author.Needs.{needs, sfits-of}
 use Rattle.walk.proofs.slowed.Statement.{statement}
 use Rattle.walk.proofs.slowed.Tie as tie
+
+loss-most : {c : Consist} {f s q : ℕ} {u : Under} → Words c → Opposed f s q u → natAbs (loss c f s q (u .grade) (u .curvature)) ≤ 2 ^ 62
+unfolding loss
+loss-most {c} {f} {s} {q} {u} w h =
+    le-trans (abs-floor (pos 1449 *ℤ opposing c f s q (u .grade) (u .curvature)) (pos (605000 * c .weight))) (scaled-most w h)
 
 module _ (c : tie.After-lost) where
   abbrev rest : ℤ

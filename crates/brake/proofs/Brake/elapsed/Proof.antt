@@ -5,6 +5,7 @@ use Prim.Native.Nat.{ℕ, _-_, _≤_}
 use native.Mathlib.Omega.{arith}
 use lib.Dec.{ltb}
 use borrow.Author.Tests.{ltb-true, ltb-false}
+use Rattle.brake.specs.Readings.{elapsedOf}
 use Rattle.brake.proofs.Brake.elapsed.Statement.{statement}
 use Rattle.brake.proofs.Brake.elapsed.Tie as tie
 
@@ -23,11 +24,13 @@ sub-result c =
     counted (start .self .sampled) (start .self .«last_time») (start .time) (c .before .if1 .taken) .0
 
 returns : tie.Need-returns
+unfolding elapsedOf
 returns c =
     let start = c .before .before .before .before .args in
     counted (start .self .sampled) (start .self .«last_time») (start .time) (c .before .if1 .taken) .1
 
 returns-2 : tie.Need-returns-2
+unfolding elapsedOf
 returns-2 c =
     let start = c .before .before .before .args in
     uncounted (start .self .sampled) (start .self .«last_time») (start .time) (c .if1 .left)

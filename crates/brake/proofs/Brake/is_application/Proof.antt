@@ -3,6 +3,7 @@ use mathlib.Core.Path.{_≡_}
 use mir.Syntax.{w64}
 use mir.Val.{toZ, ofZ}
 use borrow.Author.Needs.{needs}
+use Rattle.brake.specs.Readings.{application}
 use Rattle.brake.proofs.Brake.is_application.Statement.{statement}
 use Rattle.brake.proofs.Brake.is_application.Tie as tie
 
@@ -10,6 +11,7 @@ above-requires : tie.Need-above-requires
 above-requires c κs = search needs
 
 returns : tie.Need-returns
+unfolding application
 returns c =
     let rate = c .before .before .before .args .r .rate in
     let same : toZ w64 (ofZ w64 rate) ≡ rate = search needs in

@@ -7,11 +7,11 @@ use lib.IntN.{ℤ, pos, negsuc, _-ℤ_}
 use mir.Syntax.{w64}
 use mir.Val.{SFits}
 use mir.Facts.{toZ-ofZ}
-use borrow.Author.Needs.{sfits-of}
+use borrow.Author.Needs.{needs, sfits-of}
 use Rattle.whole.specs.Floor.{floorDiv}
 use Rattle.whole.proofs.Size.{abs-sub, fits-abs}
 use Rattle.whole.proofs.Words.{Holds, nat-holds, both, op-fits, op-holds}
-use borrow.Author.Needs.{needs}
+use Rattle.brake.specs.Readings.{elapsedOf, rateOf}
 use Rattle.brake.proofs.Brake.rate.Statement.{statement}
 use Rattle.brake.proofs.Brake.rate.Tie as tie
 
@@ -50,6 +50,7 @@ floor-div-requires : tie.Need-floor-div-requires
 floor-div-requires c κs = search needs
 
 returns : tie.Need-returns
+unfolding elapsedOf rateOf
 returns c =
     let start = c .before .before .before .args in
     let z : ℤ = pos (start .front) -ℤ pos (start .self .«last_front») in

@@ -1,8 +1,7 @@
 -- `Brake::reading` meets its contract. Assumes nothing.
 use mir.Facts.{toZ-ofZ}
-use borrow.Author.Needs.{sfits-of}
+use borrow.Author.Needs.{needs, sfits-of}
 use Rattle.brake.specs.Readings.{readingOf}
-use borrow.Author.Needs.{needs}
 use Rattle.brake.proofs.Brake.reading.Statement.{statement}
 use Rattle.brake.proofs.Brake.reading.Tie as tie
 

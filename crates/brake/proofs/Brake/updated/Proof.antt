@@ -1,9 +1,8 @@
 -- `Brake::updated` meets its contract. Assumes nothing.
-use mathlib.Core.Path.{ap, ap₂, _∙_}
+use mathlib.Core.Path.{ap}
 use Rattle.brake.specs.declared.Brake.{Brake}
-use Rattle.brake.specs.declared.Reading.{Reading}
 use Rattle.brake.specs.Brake.{withLast}
-use Rattle.brake.specs.Rules.{ruleOf, updateOf}
+use Rattle.brake.specs.Rules.{updateOf}
 use borrow.Author.Needs.{needs}
 use Rattle.brake.proofs.Brake.updated.Statement.{statement}
 use Rattle.brake.proofs.Brake.updated.Tie as tie
@@ -18,10 +17,8 @@ returns : tie.Need-returns
 unfolding updateOf
 returns c =
     let start = c .before .before .args in
-    let reading = c .before .reading .ensures in
-    ap₂ (λ (k : Brake) (r : Reading). withLast k (start .front) (r .rear) (start .time))
-    (c .ruled .ensures ∙ ap (ruleOf (start .self .state) (start .c) (start .self)) reading)
-    reading
+    rw (← c .before .reading .ensures)
+    (ap (λ (k : Brake). withLast k (start .front) (c .before .reading .result .rear) (start .time)) (c .ruled .ensures))
 
 pub updated-spec : {M : Type 1} → statement M
 updated-spec = tie.close (tie.spec reading-requires ruled-requires returns)

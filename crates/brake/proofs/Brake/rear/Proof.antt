@@ -1,0 +1,26 @@
+-- `Brake::rear` meets its contract. Assumes nothing.
+use borrow.Author.Needs.{needs}
+use Rattle.brake.specs.Readings.{rearOf}
+use Rattle.brake.proofs.Brake.rear.Statement.{statement}
+use Rattle.brake.proofs.Brake.rear.Tie as tie
+
+enum-known-rear : tie.Need-enum-known-rear
+enum-known-rear c = search needs
+
+enum-told : tie.Need-enum-told
+enum-told c = search needs
+
+returns : tie.Need-returns
+unfolding rearOf
+returns c = search needs
+
+returns-2 : tie.Need-returns-2
+unfolding rearOf
+returns-2 c = search needs
+
+returns-3 : tie.Need-returns-3
+unfolding rearOf
+returns-3 c = search needs
+
+pub rear-spec : {M : Type 1} → statement M
+rear-spec = tie.close (tie.spec enum-known-rear enum-told returns returns-2 returns-3)

@@ -1,0 +1,12 @@
+-- `Reading::is_emergency` meets its contract. Assumes nothing.
+use borrow.Author.Needs.{needs}
+use Rattle.brake.specs.Readings.{emergency}
+use Rattle.brake.proofs.Reading.is_emergency.Statement.{statement}
+use Rattle.brake.proofs.Reading.is_emergency.Tie as tie
+
+returns : tie.Need-returns
+unfolding emergency
+returns c = search needs
+
+pub is-emergency-spec : {M : Type 1} → statement M
+is-emergency-spec = tie.close (tie.spec returns)

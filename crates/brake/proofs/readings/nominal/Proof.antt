@@ -1,0 +1,18 @@
+-- `readings::nominal` meets its contract. Assumes nothing.
+use borrow.Author.Needs.{needs}
+use Rattle.brake.specs.Readings.{nominalOf}
+use Rattle.brake.proofs.readings.nominal.Statement.{statement}
+use Rattle.brake.proofs.readings.nominal.Tie as tie
+
+above-requires : tie.Need-above-requires
+above-requires c κs = search needs
+
+above-requires-2 : tie.Need-above-requires-2
+above-requires-2 c κs = search needs
+
+returns : tie.Need-returns
+unfolding nominalOf
+returns c = search needs
+
+pub nominal-spec : {M : Type 1} → statement M
+nominal-spec = tie.close (tie.spec above-requires above-requires-2 returns)

@@ -1,0 +1,25 @@
+-- The figures of the lines and of the counts, computed. Assumes nothing.
+use mathlib.Core.Path.{refl}
+use Rattle.profile.specs.Profile as profile
+use Rattle.targets.specs.Targets as targets
+use Rattle.feed.specs.Opening.{profileAhead, targetsAhead}
+use Rattle.feed.specs.Line.{lastDigits, decimal, decisionText, refusalText}
+use Rattle.feed.specs.Figures.{Figures}
+
+pub figures : Figures
+unfolding lastDigits decimal decisionText refusalText profile.counted targets.counted profileAhead targetsAhead
+figures = record {
+  first-line = refl;
+  second-line = refl;
+  one-digit = refl;
+  two-digits = refl;
+  largest = refl;
+  most-records = refl;
+  too-many = refl;
+  too-few = refl;
+  cut-short = refl;
+  no-targets = refl;
+  eight = refl;
+  nine = refl;
+  missing = refl;
+}

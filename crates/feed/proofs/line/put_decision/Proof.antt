@@ -1,0 +1,46 @@
+-- `feed::line::put_decision` meets its contract: the numbers are the decision's. Assumes nothing.
+use mathlib.Core.Path.{_≡_, refl, ap, _∙_}
+use mathlib.Core.Bool.{Bool, true, false}
+use mathlib.Core.List.{[], _∷_}
+use Prim.Native.Nat.{ℕ}
+use native.Mathlib.Omega.{arith}
+use mir.Val.{boolByte}
+use borrow.Author.Needs.{needs}
+use Rattle.decision.specs.Decision.{bit}
+use Rattle.feed.specs.Line.{spaced, decisionText, putLast}
+use Rattle.feed.proofs.Put.{put-from}
+use Rattle.feed.proofs.line.put_decision.Statement.{statement}
+use Rattle.feed.proofs.line.put_decision.Tie as tie
+
+same-bit : (b : Bool) → boolByte b ≡ bit b
+same-bit true = refl
+same-bit false = refl
+
+cast-t4 : tie.Need-cast-t4
+cast-t4 c = search needs
+
+cast-t5 : tie.Need-cast-t5
+cast-t5 c = search needs
+
+cast-t6 : tie.Need-cast-t6
+cast-t6 c = search needs
+
+slice-aggregate-put-numbers : tie.Need-slice-aggregate-put-numbers
+slice-aggregate-put-numbers c = search needs
+
+put-numbers-requires : tie.Need-put-numbers-requires
+put-numbers-requires c κs = search needs
+
+returns : tie.Need-returns
+unfolding decisionText
+returns c =
+    let s = c .before .before .before .before .before .before .args in
+    let e =
+    c .put-numbers .ensures
+    ∙ ap (λ (n : ℕ). putLast (spaced (s .d .time ∷ s .d .state ∷ n ∷ s .d .cause ∷ s .d .stop ∷ [])) (s .out .now)) (same-bit (s .d .penalty)) in
+    let f = put-from _ _ _ _ _ e in
+    (e, (omega arith, omega arith))
+
+pub put-decision-spec : {M : Type 1} → statement M
+put-decision-spec =
+    tie.close (tie.spec cast-t4 cast-t5 cast-t6 slice-aggregate-put-numbers put-numbers-requires returns)

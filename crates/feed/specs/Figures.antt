@@ -1,0 +1,31 @@
+-- Figures of the lines and of the counts, as one statement. Its proof is `figures` of proofs/Figures.antt.
+use mathlib.Core.Path.{_≡_}
+use mathlib.Core.Bool.{true, false}
+use mathlib.Core.List.{[], _∷_}
+use Rattle.refusal.specs.declared.Refusal.the-variants.{BrokenProfile, NoRoom}
+use Rattle.feed.specs.declared.opening.Part.the-variants.{Bytes, Broken}
+use Rattle.feed.specs.Opening.{profileAhead, targetsAhead}
+use Rattle.feed.specs.Line.{decimal, decisionText, refusalText}
+
+pub record Figures : Type 0 where
+  -- `0 0 0 0 5000` and `1 0 1 1 5032`, of 01's case
+  pub first-line :
+      decisionText (record { time = 0; state = 0; penalty = false; cause = 0; stop = 5000 })
+      ≡ 48 ∷ 32 ∷ 48 ∷ 32 ∷ 48 ∷ 32 ∷ 48 ∷ 32 ∷ 53 ∷ 48 ∷ 48 ∷ 48 ∷ 10 ∷ []
+  pub second-line :
+      decisionText (record { time = 1; state = 0; penalty = true; cause = 1; stop = 5032 })
+      ≡ 49 ∷ 32 ∷ 48 ∷ 32 ∷ 49 ∷ 32 ∷ 49 ∷ 32 ∷ 53 ∷ 48 ∷ 51 ∷ 50 ∷ 10 ∷ []
+  -- `x 6` and `x 12`
+  pub one-digit : refusalText BrokenProfile ≡ 120 ∷ 32 ∷ 54 ∷ 10 ∷ []
+  pub two-digits : refusalText NoRoom ≡ 120 ∷ 32 ∷ 49 ∷ 50 ∷ 10 ∷ []
+  -- the no-stop value
+  pub largest : decimal 16777215 ≡ 49 ∷ 54 ∷ 55 ∷ 55 ∷ 55 ∷ 50 ∷ 49 ∷ 53 ∷ []
+  -- 257 records are announced with the high byte first, 258 and 1 are none, nor is a single byte
+  pub most-records : profileAhead (1 ∷ 1 ∷ []) ≡ Bytes 1542
+  pub too-many : profileAhead (1 ∷ 2 ∷ []) ≡ Broken
+  pub too-few : profileAhead (0 ∷ 1 ∷ []) ≡ Broken
+  pub cut-short : profileAhead (2 ∷ []) ≡ Broken
+  pub no-targets : targetsAhead (0 ∷ []) ≡ Bytes 0
+  pub eight : targetsAhead (8 ∷ []) ≡ Bytes 40
+  pub nine : targetsAhead (9 ∷ []) ≡ Broken
+  pub missing : targetsAhead [] ≡ Broken

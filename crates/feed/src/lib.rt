@@ -1,0 +1,141 @@
+// The session program over two descriptors: a feed is read from one, and its lines are written to the other. Nothing is read
+// past what is needed to answer, a line is written as soon as its sample is judged, and a feed of any length runs in the same
+// memory.
+mod line;
+mod opening;
+
+use line::ROOM;
+use opening::PROFILE_ROOM;
+use opening::Part;
+use opening::TARGETS_ROOM;
+use refusal::Refusal;
+use refusal::Verdict;
+use session::Answer;
+use session::Session;
+ghost use Prim.Native.Nat.{_≤_};
+ghost use lib.ListN.{length};
+ghost use Rattle.io.specs.Counts.{Counts};
+ghost use Rattle.feed.specs.Opening.{bytesIn, profileRoom, targetsRoom};
+
+// The session after a sample, and whether another may follow.
+struct Turn {
+    session: Session,
+    more: bool,
+}
+
+// Writes a line, which stands at the end of `text`, by one write, so that nobody reads half of it. Answers whether it was written.
+fn write_line(output: i32, text: &[u8], from: usize) -> bool
+    requires { ⌜ from ≤ length (now text) ⌝ }
+{
+    io::write_all(output, &text[from..])
+}
+
+fn print_refusal(output: i32, r: Refusal) {
+    let mut text = [0u8; ROOM];
+    let from = line::put_refusal(r, &mut text);
+    write_line(output, &text, from);
+}
+
+// Answers whether the line was written.
+fn print_sample(output: i32, v: Verdict, decision: &[u8]) -> bool {
+    let mut text = [0u8; ROOM];
+    let from = line::put_sample(v, decision, &mut text);
+    write_line(output, &text, from)
+}
+
+fn read_consist(input: i32) -> Answer {
+    let mut consist = [0u8; 16];
+    let n = io::read_full(input, &mut consist);
+    session::open(session::none(), &consist[..n])
+}
+
+// Reads `size` bytes to the front of `s`, and answers how many came.
+fn read_front(input: i32, size: usize, s: &mut [u8]) -> usize
+    requires { ⌜ size ≤ length (now s) ⌝ }
+    ensures { λ r. ⌜ Counts r (now (s .exit)) ⌝ }
+{
+    io::read_full(input, &mut s[..size])
+}
+
+// Reads the count of records, and then the profile to the front of `p`.
+fn read_profile(input: i32, p: &mut [u8]) -> Part
+    requires { ⌜ profileRoom ≤ length (now p) ⌝ }
+    ensures { λ r. ⌜ bytesIn r ≤ length (now (p .exit)) ⌝ }
+{
+    let mut count = [0u8; 2];
+    let n = io::read_full(input, &mut count);
+    let ahead = opening::profile_ahead(&count[..n]);
+    let came = read_front(input, opening::bytes_in(ahead), p);
+    opening::profile_taken(ahead, &p[..came])
+}
+
+// Reads the count of records, and then the targets to the front of `t`.
+fn read_targets(input: i32, t: &mut [u8]) -> Part
+    requires { ⌜ targetsRoom ≤ length (now t) ⌝ }
+    ensures { λ r. ⌜ bytesIn r ≤ length (now (t .exit)) ⌝ }
+{
+    let mut count = [0u8; 1];
+    let n = io::read_full(input, &mut count);
+    let ahead = opening::targets_ahead(&count[..n]);
+    let came = read_front(input, opening::bytes_in(ahead), t);
+    opening::targets_taken(ahead, &t[..came])
+}
+
+// Reads a sample, judges it and prints its line. No other follows one that is cut short, or whose line can't be written.
+fn answer_one(input: i32, output: i32, x: Session, p: &[u8], t: &[u8]) -> Turn {
+    let mut sample = [0u8; 20];
+    let n = io::read_full(input, &mut sample);
+    if n == 0 {
+        return Turn {
+            session: x,
+            more: false,
+        };
+    }
+    let mut decision = [0u8; 8];
+    let answer = session::sample(x, &sample[..n], p, t, &mut decision);
+    let session = answer.session;
+    let verdict = answer.verdict;
+    let printed = print_sample(output, verdict, &decision);
+    Turn {
+        session,
+        more: printed & (n == sample.len()),
+    }
+}
+
+// Answers sample after sample. A proved loop has to end, and nothing says that a feed does: so the turns are counted down, from
+// a number that at one sample a second lasts more than 500,000,000,000 years.
+fn answer_all(input: i32, output: i32, x: Session, p: &[u8], t: &[u8]) {
+    let mut session = x;
+    let mut turns = u64::MAX;
+    while turns > 0 {
+        let turn = answer_one(input, output, session, p, t);
+        let more = turn.more;
+        if !more {
+            return;
+        }
+        session = turn.session;
+        turns -= 1;
+    }
+}
+
+// Runs a feed: consist, profile, targets, then samples.
+pub fn run(input: i32, output: i32) {
+    let opened = read_consist(input);
+    let verdict = opened.verdict;
+    if let Verdict::Refused(r) = verdict {
+        print_refusal(output, r);
+        return;
+    }
+    let mut p = [0u8; PROFILE_ROOM];
+    let Part::Bytes(n) = read_profile(input, &mut p) else {
+        print_refusal(output, Refusal::BrokenProfile);
+        return;
+    };
+    let mut t = [0u8; TARGETS_ROOM];
+    let Part::Bytes(m) = read_targets(input, &mut t) else {
+        print_refusal(output, Refusal::BrokenTargets);
+        return;
+    };
+    let session = opened.session;
+    answer_all(input, output, session, &p[..n], &t[..m]);
+}

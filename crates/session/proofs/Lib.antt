@@ -1,0 +1,8 @@
+-- Laws of the session.
+pub mod Rules
+pub mod Accepted
+pub mod Admitted
+pub mod Calls
+pub mod Laws
+pub mod Unique
+pub mod Figures

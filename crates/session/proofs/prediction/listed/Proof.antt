@@ -1,0 +1,83 @@
+-- `session::prediction::listed` meets its contract: k places of each array are filled. Assumes nothing.
+use mathlib.Core.Path.{_≡_, refl, ap, ap₂, _∙_}
+use mathlib.Core.List.{List}
+use denote.Ref.{now}
+use Prim.Native.Nat.{ℕ, _-_, _≤_, _<_}
+use native.Mathlib.Omega.{arith}
+use borrow.Author.Needs.{needs}
+use Rattle.targets.specs.declared.Target.{Target}
+use Rattle.targets.specs.Targets.{count, targetAt}
+use Rattle.bits.specs.Tables.{upTo}
+use Rattle.bits.proofs.UpTo.{filled, fill, filled-up}
+use Rattle.session.proofs.prediction.listed.Statement.{statement}
+use Rattle.session.proofs.prediction.listed.Tie as tie
+
+-- eight places filled are all of them
+all : (f : ℕ → ℕ) → filled f 0 8 8 ≡ upTo 8 f
+all f = filled-up f 0 8 8 (omega arith) (λ i a b. absurd (omega arith))
+
+abbrev Inv-loop : tie.InvT-loop
+Inv-loop t locations₀ speeds₀ k₀ locations speeds k =
+    (k ≤ 8) × (locations ≡ filled (λ i. targetAt t i .location) 0 8 k) × (speeds ≡ filled (λ i. targetAt t i .speed) 0 8 k)
+
+abbrev μ-loop : tie.MeasureT-loop
+μ-loop t locations₀ speeds₀ k₀ locations speeds k = 8 - k
+
+loop-holds : tie.Need-loop-holds Inv-loop μ-loop
+loop-holds c = (omega arith, refl, refl)
+
+target-at-requires : tie.Need-target-at-requires Inv-loop μ-loop
+target-at-requires c κs = search needs
+
+mul-locations : tie.Need-mul-locations Inv-loop μ-loop
+mul-locations c = omega arith
+
+array-write-locations : tie.Need-array-write-locations Inv-loop μ-loop
+array-write-locations c = omega arith
+
+mul-speeds : tie.Need-mul-speeds Inv-loop μ-loop
+mul-speeds c = omega arith
+
+array-write-speeds : tie.Need-array-write-speeds Inv-loop μ-loop
+array-write-speeds c = omega arith
+
+add-k : tie.Need-add-k Inv-loop μ-loop
+add-k c = omega arith
+
+loop-less : tie.Need-loop-less Inv-loop μ-loop
+loop-less c = omega arith
+
+loop-again : tie.Need-loop-again Inv-loop μ-loop
+loop-again c =
+    let l = c .before .before .loop in
+    let h : l .k < 8 = omega arith in (
+      omega arith,
+      fill _ 0 8 (l .k) h _ _ (l .inv .1) (ap (λ (g : Target). g .location) (c .target-at .ensures)),
+      fill _ 0 8 (l .k) h _ _ (l .inv .2) (ap (λ (g : Target). g .speed) (c .target-at .ensures)),
+    )
+
+returns : tie.Need-returns Inv-loop μ-loop
+returns c =
+    let l = c .before .loop in
+    let e : l .k ≡ 8 = omega arith in
+    let t = now (c .before .before .before .args .t) in
+    ap₂ (λ (xs ys : List ℕ). record { count = count t; locations = xs; speeds = ys })
+    (l .inv .1 ∙ ap (filled (λ i. targetAt t i .location) 0 8) e ∙ all (λ i. targetAt t i .location))
+    (l .inv .2 ∙ ap (filled (λ i. targetAt t i .speed) 0 8) e ∙ all (λ i. targetAt t i .speed))
+
+pub listed-spec : {M : Type 1} → statement M
+listed-spec =
+    tie.close
+    (tie.spec
+    Inv-loop
+    μ-loop
+    loop-holds
+    target-at-requires
+    mul-locations
+    array-write-locations
+    mul-speeds
+    array-write-speeds
+    add-k
+    loop-less
+    loop-again
+    returns)

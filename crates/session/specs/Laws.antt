@@ -1,0 +1,57 @@
+-- What holds of every session: refusals exactly on their conditions, an open session stays one, the penalty stands.
+-- Statements; proofs/Laws.antt proves them.
+use mathlib.Core.Path.{_≡_}
+use mathlib.Core.Bool.{true}
+use mathlib.Core.List.{List, [], _∷_}
+use mathlib.Core.Logic.{_↔_}
+use Prim.Native.Nat.{ℕ, _<_}
+use Rattle.refusal.specs.Exactly.{Lowest}
+use Rattle.refusal.specs.declared.Refusal.{Refusal}
+use Rattle.refusal.specs.declared.Verdict.the-variants.{Accepted, Refused}
+use Rattle.consist.specs.Consist.{readRules}
+use Rattle.session.specs.declared.Session.{Session}
+use Rattle.session.specs.Session.{isOpen}
+use Rattle.session.specs.Open.{openOf}
+use Rattle.session.specs.Sample.{rules, sampleCall}
+
+-- ---- "a refusal is given exactly on its stated condition", the lowest first; "a refused call changes neither the session nor one byte of the output"
+
+pub record OpenExact (x : Session) (s : List ℕ) : Type 0 where
+  pub refused : (r : Refusal) → (openOf x s .verdict ≡ Refused r) ↔ Lowest (readRules s) r
+  pub kept : (r : Refusal) → openOf x s .verdict ≡ Refused r → openOf x s .session ≡ x
+
+pub record SampleExact (x : Session) (s p t out : List ℕ) : Type 0 where
+  pub refused : (r : Refusal) → (sampleCall x s p t out .0 .verdict ≡ Refused r) ↔ Lowest (rules x s p t out) r
+  pub kept : (r : Refusal) → sampleCall x s p t out .0 .verdict ≡ Refused r → sampleCall x s p t out .0 .session ≡ x
+  pub untouched : (r : Refusal) → sampleCall x s p t out .0 .verdict ≡ Refused r → sampleCall x s p t out .1 ≡ out
+
+unfoldable pub OpenExactly : Type 0
+OpenExactly = (x : Session) (s : List ℕ) → OpenExact x s
+
+unfoldable pub SampleExactly : Type 0
+SampleExactly = (x : Session) (s p t out : List ℕ) → SampleExact x s p t out
+
+-- ---- every session that an accepted call hands back is open
+
+unfoldable pub OpensOpen : Type 0
+OpensOpen = (x : Session) (s : List ℕ) → openOf x s .verdict ≡ Accepted → isOpen (openOf x s .session) ≡ true
+
+unfoldable pub StaysOpen : Type 0
+StaysOpen = (x : Session) (s p t out : List ℕ) → sampleCall x s p t out .0 .verdict ≡ Accepted → isOpen (sampleCall x s p t out .0 .session) ≡ true
+
+-- ---- "Once commanded, a penalty stands until the session is opened anew."
+
+-- what is lent to a call
+pub record Lent : Type 0 where
+  pub sample : List ℕ
+  pub profile : List ℕ
+  pub targets : List ℕ
+  pub out : List ℕ
+
+-- the session after a list of calls
+unfoldable pub afterCalls : Session → List Lent → Session
+afterCalls x [] = x
+afterCalls x (l ∷ ls) = afterCalls (sampleCall x (l .sample) (l .profile) (l .targets) (l .out) .0 .session) ls
+
+unfoldable pub PenaltyStands : Type 0
+PenaltyStands = (x : Session) (ls : List Lent) → 0 < x .cause → afterCalls x ls .cause ≡ x .cause

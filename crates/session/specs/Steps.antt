@@ -1,0 +1,60 @@
+-- What the steps of a sample call find on their way. Definitions only.
+use mathlib.Core.List.{List}
+use Prim.Native.Nat.{ℕ, _≤_}
+use Rattle.refusal.specs.Lowest.{lowest}
+use Rattle.refusal.specs.declared.Verdict.{Verdict}
+use Rattle.refusal.specs.declared.Verdict.the-variants as verdict
+use Rattle.consist.specs.declared.Consist.{Consist}
+use Rattle.consist.specs.Sound as consist
+use Rattle.brake.specs.declared.Brake.{Brake}
+use Rattle.brake.specs.Sound as brake
+use Rattle.track.specs.Track.{layOf}
+use Rattle.track.specs.Gentle.{Gentle}
+use Rattle.sample.specs.Bounds.{Bounded}
+use Rattle.sample.specs.declared.RawSample.{RawSample}
+use Rattle.sample.specs.declared.Sample.{Sample}
+use Rattle.sample.specs.Sample.{sampleOf}
+use Rattle.targets.specs.Targets as targets
+use Rattle.session.specs.declared.Session.{Session}
+use Rattle.session.specs.declared.Entry.{Entry}
+use Rattle.session.specs.declared.Entry.the-variants.{Admitted, Refused}
+use Rattle.session.specs.declared.After.{After}
+use Rattle.session.specs.declared.Listed.{Listed}
+use Rattle.session.specs.Sample.{sampleIn, locationsIn, speedsIn, rulesRaw, rulesBefore, sessionAfter, decisionOf, prediction}
+
+abbrev pub entry : Verdict → Sample → Entry
+entry verdict.Accepted m = Admitted m
+entry (verdict.Refused r) m = Refused r
+
+-- what is refused of a sample that is laid out, or the sample
+unfoldable pub admitRaw : Session → RawSample → List ℕ → List ℕ → Entry
+admitRaw x raw p t = entry (lowest (rulesRaw x raw p t)) (sampleOf raw)
+
+-- what is refused before the walk, or the sample
+unfoldable pub admitOf : Session → List ℕ → List ℕ → List ℕ → Entry
+admitOf x s p t = entry (lowest (rulesBefore x s p t)) (sampleIn s)
+
+-- the targets, place by place
+abbrev pub listedOf : List ℕ → Listed
+listedOf t = record { count = targets.count t; locations = locationsIn t; speeds = speedsIn t }
+
+-- what an accepted sample makes of the session
+abbrev pub afterOf : Session → Sample → List ℕ → List ℕ → After
+afterOf x m p t = record { session = sessionAfter x m p t; decision = decisionOf x m p t; fast = prediction x m p t .fast }
+
+-- ---- what the steps after admission ask
+
+-- what a prediction asks
+pub record Predictable (c : Consist) (k : Brake) (m : Sample) (p : List ℕ) : Type 0 where
+  pub consist : consist.Sound c
+  pub brake : brake.Sound c k
+  pub track : Gentle (layOf p)
+  pub head : m .head ≤ 4000000
+
+-- what is known of an admitted sample
+pub record Ready (x : Session) (m : Sample) (p : List ℕ) : Type 0 where
+  pub consist : consist.Sound (x .consist)
+  pub brake : brake.Sound (x .consist) (x .brake)
+  pub sample : Bounded m
+  pub track : Gentle (layOf p)
+  pub head : m .head ≤ 4000000

@@ -1,0 +1,96 @@
+// What an admitted sample makes of the session: the update, the prediction, the standing penalty, the decision.
+use super::After;
+use super::Listed;
+use super::Session;
+use brake::Brake;
+use consist::Consist;
+use decision::Decision;
+use sample::Sample;
+use track::Track;
+use walk::Curve;
+use walk::Prediction;
+ghost use mathlib.Core.Path.{_≡_};
+ghost use mathlib.Core.Bool.{cond};
+ghost use lib.Dec.{eqb};
+ghost use Rattle.session.specs.Sample.{predictionOf};
+ghost use Rattle.session.specs.Steps.{listedOf, afterOf, Predictable, Ready};
+
+fn listed(t: &[u8]) -> Listed
+    ensures { λ r. ⌜ r ≡ listedOf (now (t .entry)) ⌝ }
+{
+    let mut locations = [0u32; 8];
+    let mut speeds = [0u16; 8];
+    let mut k: usize = 0;
+    while k < 8 {
+        let g = targets::target_at(t, k);
+        locations[k] = g.location;
+        speeds[k] = g.speed;
+        k += 1;
+    }
+    Listed {
+        count: t.len() / 5,
+        locations,
+        speeds,
+    }
+}
+
+// From the pressures of an updated brake.
+fn predicted(c: Consist, k: Brake, m: Sample, p: &[u8], speeds: [u16; 8]) -> Prediction
+    requires { ⌜ Predictable c k m (now p) ⌝ }
+    ensures { λ r. ⌜ r ≡ predictionOf c k m (now (p .entry)) speeds ⌝ }
+{
+    let curve = Curve::penalty(c, k.a, k.b);
+    let track = Track::laid(p);
+    walk::predict(c, curve, track, m.head, m.speed, speeds)
+}
+
+// The cause that stands, or else the one that is called for.
+fn standing(stands: u8, called: u8) -> u8
+    ensures { λ r. ⌜ r ≡ cond (eqb stands 0) called stands ⌝ }
+{
+    if stands == 0 { called } else { stands }
+}
+
+pub fn after(x: Session, m: Sample, p: &[u8], t: &[u8]) -> After
+    requires { ⌜ Ready x m (now p) ⌝ }
+    ensures { λ r. ⌜ r ≡ afterOf x m (now (p .entry)) (now (t .entry)) ⌝ }
+{
+    let c = x.consist;
+    let held = x.brake;
+    let rear = m.rear;
+    let brake = held.updated(c, m.time, m.front, rear);
+    let targets = listed(t);
+    let locations = targets.locations;
+    let speeds = targets.speeds;
+    let found = predicted(c, brake, m, p, speeds);
+    let places = found.places;
+    let called = judge::cause(
+        c.offset,
+        m.head,
+        m.speed,
+        targets.count,
+        locations,
+        speeds,
+        places,
+    );
+    let cause = standing(x.cause, called);
+    let state = brake.state;
+    let decision = Decision {
+        time: m.time,
+        state: brake::state_number(state),
+        penalty: cause != 0,
+        cause,
+        stop: found.stop,
+    };
+    let session = Session {
+        opened: true,
+        consist: c,
+        brake,
+        cause,
+    };
+    After {
+        session,
+        decision,
+        fast: found.fast,
+    }
+}
