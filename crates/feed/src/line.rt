@@ -64,7 +64,7 @@ fn put_numbers(ns: &[u32], out: &mut [u8]) -> usize
 }
 
 // The line of a decision, at the end of `out`; answers where it begins.
-pub fn put_decision(d: Decision, out: &mut [u8; ROOM]) -> usize
+pub(crate) fn put_decision(d: Decision, out: &mut [u8; ROOM]) -> usize
     ensures { λ r. ⌜ (r, now (out .exit)) ≡ putLast (decisionText d) (now (out .entry)) ⌝ }
     ensures { λ r. ⌜ Inside r (now (out .exit)) ⌝ }
 {
@@ -81,7 +81,7 @@ pub fn put_decision(d: Decision, out: &mut [u8; ROOM]) -> usize
 }
 
 // The line of a refusal, at the end of `out`; answers where it begins.
-pub fn put_refusal(r: Refusal, out: &mut [u8; ROOM]) -> usize
+pub(crate) fn put_refusal(r: Refusal, out: &mut [u8; ROOM]) -> usize
     ensures { λ n. ⌜ (n, now (out .exit)) ≡ putLast (refusalText r) (now (out .entry)) ⌝ }
     ensures { λ n. ⌜ Inside n (now (out .exit)) ⌝ }
 {
@@ -103,7 +103,7 @@ fn put_record(s: &[u8], out: &mut [u8; ROOM]) -> usize
 }
 
 // The line of a sample, at the end of `out`; answers where it begins.
-pub fn put_sample(v: Verdict, s: &[u8], out: &mut [u8; ROOM]) -> usize
+pub(crate) fn put_sample(v: Verdict, s: &[u8], out: &mut [u8; ROOM]) -> usize
     ensures { λ n. ⌜ (n, now (out .exit)) ≡ putLast (sampleText v (now (s .entry))) (now (out .entry)) ⌝ }
     ensures { λ n. ⌜ Inside n (now (out .exit)) ⌝ }
 {

@@ -26,7 +26,7 @@ pub enum Part {
     Broken,
 }
 
-pub fn bytes_in(part: Part) -> usize
+pub(crate) fn bytes_in(part: Part) -> usize
     ensures { λ r. ⌜ r ≡ bytesIn part ⌝ }
 {
     match part {
@@ -53,7 +53,7 @@ fn announced(count: &[u8], width: usize, least: usize, most: usize, size: usize)
 }
 
 // The profile that a count announces.
-pub fn profile_ahead(count: &[u8]) -> Part
+pub(crate) fn profile_ahead(count: &[u8]) -> Part
     ensures { λ r. ⌜ r ≡ profileAhead (now (count .entry)) ⌝ }
     ensures { λ r. ⌜ bytesIn r ≤ profileRoom ⌝ }
 {
@@ -61,7 +61,7 @@ pub fn profile_ahead(count: &[u8]) -> Part
 }
 
 // The targets that a count announces.
-pub fn targets_ahead(count: &[u8]) -> Part
+pub(crate) fn targets_ahead(count: &[u8]) -> Part
     ensures { λ r. ⌜ r ≡ targetsAhead (now (count .entry)) ⌝ }
     ensures { λ r. ⌜ bytesIn r ≤ targetsRoom ⌝ }
 {
@@ -102,7 +102,7 @@ fn taken(ahead: Part, came: usize, right: bool) -> Part
 }
 
 // The profile that came, where this was announced.
-pub fn profile_taken(ahead: Part, p: &[u8]) -> Part
+pub(crate) fn profile_taken(ahead: Part, p: &[u8]) -> Part
     ensures { λ r. ⌜ r ≡ profileTaken ahead (now (p .entry)) ⌝ }
     ensures { λ r. ⌜ bytesIn r ≤ length (now (p .entry)) ⌝ }
 {
@@ -110,7 +110,7 @@ pub fn profile_taken(ahead: Part, p: &[u8]) -> Part
 }
 
 // The targets that came, where these were announced.
-pub fn targets_taken(ahead: Part, t: &[u8]) -> Part
+pub(crate) fn targets_taken(ahead: Part, t: &[u8]) -> Part
     ensures { λ r. ⌜ r ≡ targetsTaken ahead (now (t .entry)) ⌝ }
     ensures { λ r. ⌜ bytesIn r ≤ length (now (t .entry)) ⌝ }
 {

@@ -64,7 +64,7 @@ fn admit_raw(x: Session, raw: RawSample, p: &[u8], t: &[u8]) -> Entry
     Entry::Admitted(m)
 }
 
-pub fn admit(x: Session, s: &[u8], p: &[u8], t: &[u8]) -> Entry
+pub(crate) fn admit(x: Session, s: &[u8], p: &[u8], t: &[u8]) -> Entry
     ensures { λ r. ⌜ r ≡ admitOf x (now (s .entry)) (now (p .entry)) (now (t .entry)) ⌝ }
 {
     if !is_open(x) {

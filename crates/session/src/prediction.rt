@@ -51,7 +51,7 @@ fn standing(stands: u8, called: u8) -> u8
     if stands == 0 { called } else { stands }
 }
 
-pub fn after(x: Session, m: Sample, p: &[u8], t: &[u8]) -> After
+pub(crate) fn after(x: Session, m: Sample, p: &[u8], t: &[u8]) -> After
     requires { ⌜ Ready x m (now p) ⌝ }
     ensures { λ r. ⌜ r ≡ afterOf x m (now (p .entry)) (now (t .entry)) ⌝ }
 {
