@@ -126,19 +126,17 @@ pub fn sample(x: Session, s: &[u8], p: &[u8], t: &[u8], out: &mut [u8]) -> Answe
         Entry::Refused(r) => refused(x, r),
         Entry::Admitted(m) => {
             let next = after(x, m, p, t);
+            let session = next.session;
+            let decided = next.decision;
             if next.fast {
                 return refused(x, Refusal::TooFast);
             }
-            let decided = next.decision;
             match decision::write(decided, out) {
                 Verdict::Refused(r) => refused(x, r),
-                Verdict::Accepted => {
-                    let session = next.session;
-                    Answer {
-                        session,
-                        verdict: Verdict::Accepted,
-                    }
-                }
+                Verdict::Accepted => Answer {
+                    session,
+                    verdict: Verdict::Accepted,
+                },
             }
         }
     }

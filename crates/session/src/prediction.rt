@@ -58,11 +58,11 @@ pub(crate) fn after(x: Session, m: Sample, p: &[u8], t: &[u8]) -> After
     let c = x.consist;
     let held = x.brake;
     let rear = m.rear;
-    let brake = held.updated(c, m.time, m.front, rear);
+    let updated = held.updated(c, m.time, m.front, rear);
     let targets = listed(t);
     let locations = targets.locations;
     let speeds = targets.speeds;
-    let found = predicted(c, brake, m, p, speeds);
+    let found = predicted(c, updated, m, p, speeds);
     let places = found.places;
     let called = judge::cause(
         c.offset,
@@ -74,7 +74,7 @@ pub(crate) fn after(x: Session, m: Sample, p: &[u8], t: &[u8]) -> After
         places,
     );
     let cause = standing(x.cause, called);
-    let state = brake.state;
+    let state = updated.state;
     let decision = Decision {
         time: m.time,
         state: brake::state_number(state),
@@ -85,7 +85,7 @@ pub(crate) fn after(x: Session, m: Sample, p: &[u8], t: &[u8]) -> After
     let session = Session {
         opened: true,
         consist: c,
-        brake,
+        brake: updated,
         cause,
     };
     After {

@@ -64,8 +64,8 @@ refused-requires-2 c κs = search needs
 
 returns : tie.Need-returns
 returns c =
-    let k = c .before .before .before .before in
-    let a = after-is (c .before .before) in
+    let k = c .before .before .before .before .before .before in
+    let a = after-is (c .before .before .before .before) in
     let out = now (entry k .args .out) in
     ap (λ (y : Answer). (y, out)) (c .refused2 .ensures)
     ∙ sym (call-fast (entry k .args .x) (s k) (p k) (t k) out (passes k .0) (ap (λ (y : After). y .fast) (sym a) ∙ c .before .if1 .taken))
@@ -96,8 +96,8 @@ same-length c = search needs
 
 returns-3 : tie.Need-returns-3
 returns-3 c =
-    let k = c .before .before .before .before .before .before .before .before .before .before .before .before in
-    let a = after-is (c .before .before .before .before .before .before .before .before .before .before) in
+    let k = c .before .before .before .before .before .before .before .before .before .before .before .before .before in
+    let a = after-is (c .before .before .before .before .before .before .before .before .before .before .before) in
     let x = entry k .args .x in
     let out = now (entry k .args .out) in
     let d = decisionOf x (sampleIn (s k)) (p k) (t k) in
@@ -107,7 +107,7 @@ returns-3 c =
     ∙ c .before .before .before .before .before .before .write .ensures
     ∙ ap (λ (y : After). writeDecision (y .decision) out) a) in
     ap₂ (λ (y : Answer) (o : List ℕ). (y, o)) (c .refused3 .ensures ∙ ap (refusedWith x) (w .0)) (w .1)
-    ∙ sym (call-room x (s k) (p k) (t k) out (passes k .0) (ap (λ (y : After). y .fast) (sym a) ∙ c .before .before .before .before .before .before .before .before .before .if1 .left) (w .2))
+    ∙ sym (call-room x (s k) (p k) (t k) out (passes k .0) (ap (λ (y : After). y .fast) (sym a) ∙ c .before .before .before .before .before .before .before .before .if1 .left) (w .2))
 
 same-length-2 : tie.Need-same-length-2
 same-length-2 c = search needs
@@ -120,12 +120,12 @@ returns-4 c =
     let out = now (entry k .args .out) in
     let d = decisionOf x (sampleIn (s k)) (p k) (t k) in
     let w =
-    wrote-accepted d out (in-range x (s k) (p k) (t k) (passes k .0)) (c .before .before .before .before .before .write .last .1 .0)
-    (ap (λ (v : Verdict). (v, c .before .before .before .before .before .write .last .1 .0)) (sym (c .before .enum-told .given .1))
-    ∙ c .before .before .before .before .before .write .ensures
+    wrote-accepted d out (in-range x (s k) (p k) (t k) (passes k .0)) (c .before .before .before .before .write .last .1 .0)
+    (ap (λ (v : Verdict). (v, c .before .before .before .before .write .last .1 .0)) (sym (c .enum-told .given .1))
+    ∙ c .before .before .before .before .write .ensures
     ∙ ap (λ (y : After). writeDecision (y .decision) out) a) in
     ap₂ (λ (y : After) (o : List ℕ). (record { session = y .session; verdict = verdict.Accepted }, o)) a (w .0)
-    ∙ sym (call-accepted x (s k) (p k) (t k) out (passes k .0) (ap (λ (y : After). y .fast) (sym a) ∙ c .before .before .before .before .before .before .before .before .if1 .left) (w .1))
+    ∙ sym (call-accepted x (s k) (p k) (t k) out (passes k .0) (ap (λ (y : After). y .fast) (sym a) ∙ c .before .before .before .before .before .before .if1 .left) (w .1))
 
 pub sample-spec : {M : Type 1} → statement M
 sample-spec =
