@@ -4,7 +4,7 @@
 ghost use mathlib.Core.Path.{_≡_};
 ghost use Rattle.whole.specs.Floor.{floorDiv};
 ghost use Rattle.whole.specs.Ceiling.{ceilDiv};
-ghost use Rattle.whole.specs.Root.{rootOf};
+ghost use Rattle.whole.specs.Root.{rootOf, AboveRoot};
 
 // The machine's quotient goes toward zero: where a remainder is left below zero, it is one too high.
 pub fn floor_div(a: i64, b: i64) -> i64
@@ -30,12 +30,27 @@ pub fn ceil_div(a: u64, b: u64) -> u64
     }
 }
 
+// A number above the root, nearer where q is small, so that fewer halvings are made.
+fn above_root(q: u64) -> u64
+    ensures { λ r. ⌜ AboveRoot q r ⌝ }
+{
+    if q < 0x1_0000 {
+        0x100
+    } else if q < 0x100_0000 {
+        0x1000
+    } else if q < 0x1_0000_0000 {
+        0x1_0000
+    } else {
+        0x1_0000_0000
+    }
+}
+
 // By halving: the root is lo or above it, and below hi.
 pub fn isqrt(q: u64) -> u64
     ensures { λ r. ⌜ r ≡ rootOf q ⌝ }
 {
     let mut lo: u64 = 0;
-    let mut hi: u64 = 0x1_0000_0000;
+    let mut hi = above_root(q);
     while lo + 1 < hi {
         let mid = (lo + hi) / 2;
         if mid * mid <= q {

@@ -27,6 +27,9 @@ Inv-loop q lo₀ hi₀ lo hi = Between q lo hi
 abbrev μ-loop : tie.MeasureT-loop
 μ-loop q lo₀ hi₀ lo hi = hi - lo
 
+above-root-requires : tie.Need-above-root-requires Inv-loop μ-loop
+above-root-requires c κs = tt
+
 loop-holds : tie.Need-loop-holds Inv-loop μ-loop
 loop-holds c = omega arith
 
@@ -60,6 +63,7 @@ isqrt-spec =
     (tie.spec
     Inv-loop
     μ-loop
+    above-root-requires
     loop-holds
     add-loop
     add-mid
