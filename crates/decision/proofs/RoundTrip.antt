@@ -1,8 +1,8 @@
 -- The round trip of the decision's record. Assumes nothing.
 use mathlib.Core.Path.{_≡_, refl, sym, ap, ap₂, _∙_}
-use Prim.Native.Nat.{ℕ, zero, suc, _≤_, _<_}
+use Prim.Native.Nat.{ℕ, _≤_}
 use native.Mathlib.Omega.{arith}
-use mathlib.Core.Bool.{Bool, true, false}
+use mathlib.Core.Bool.{false}
 use mathlib.Core.List.{List, [], _∷_, _++_}
 use lib.ListN.{length, take, drop, getD}
 use lib.Dec.{eqb}
@@ -10,6 +10,7 @@ use borrow.Author.Tests.{eqb-true, ltb-false, not-false}
 use Rattle.bits.specs.Fields.{split}
 use Rattle.bits.specs.Bytes.{Bytes, num, fieldsIn, bytesFrom}
 use Rattle.bits.proofs.Fields.{split-fit}
+use Rattle.bits.proofs.Bit.{of-bit, to-bit}
 use Rattle.bits.proofs.Bytes.{fields-of-bytes, bytes-of-fields}
 use Rattle.refusal.specs.Written.{noRoom}
 use Rattle.refusal.specs.declared.Verdict.{Verdict}
@@ -17,7 +18,7 @@ use Rattle.refusal.specs.declared.Verdict.the-variants as verdict
 use Rattle.refusal.proofs.Order.{accepted, written-accepted}
 use Rattle.decision.specs.declared.Decision.{Decision}
 use Rattle.decision.specs.declared.Answer.the-variants.{Accepted}
-use Rattle.decision.specs.Decision.{mark, bit, widths, fieldsOf, ofFields, decisionIn, bytesOf, wrongLength, wrongMark, outOfRange, answer, readDecision, writeDecision}
+use Rattle.decision.specs.Decision.{mark, widths, fieldsOf, ofFields, decisionIn, bytesOf, wrongLength, wrongMark, outOfRange, answer, readDecision, writeDecision}
 use Rattle.decision.specs.RoundTrip.{WrittenReadsBack, AcceptedWritesBack}
 use Rattle.decision.proofs.Steps.{right-length, fits}
 use Rattle.decision.proofs.Answers.{read-accepted, write-accepted}
@@ -44,17 +45,6 @@ write-inv d out h =
     let r = accepted _ _ _ (written-accepted _ (bytesOf d) out h) in
     let o = accepted _ _ _ (r .1) in
     (r .0, ltb-false (length out) 8 (o .0))
-
--- ---- the penalty and its bit
-
-of-bit : (b : Bool) → eqb (bit b) 1 ≡ b
-of-bit true = refl
-of-bit false = refl
-
-to-bit : (n : ℕ) → n < 2 → bit (eqb n 1) ≡ n
-to-bit zero h = refl
-to-bit (suc zero) h = refl
-to-bit (suc (suc n)) h = absurd (omega arith)
 
 -- ---- fields of a decision
 

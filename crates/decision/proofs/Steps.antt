@@ -9,10 +9,12 @@ use lib.Dec.{leb, ltb, eqb}
 use borrow.Author.Tests.{ltb-false, leb-true, leb-false, eqb-true, not-false}
 use Rattle.bits.specs.Fields.{split, join, Fit}
 use Rattle.bits.specs.Bytes.{eights, num}
+use Rattle.bits.proofs.Ranges.{neither}
+use Rattle.bits.proofs.Bit.{bit-fits}
 use Rattle.decision.specs.declared.Decision.{Decision}
 use Rattle.decision.specs.declared.Step.the-variants.{On, Off}
 use Rattle.decision.specs.declared.Word.the-variants.{One, Wrong}
-use Rattle.decision.specs.Decision.{farthest, noStop, bit, widths, fieldsOf, bytesOf, wrongLength, atOdds, rightStop, outOfRange}
+use Rattle.decision.specs.Decision.{farthest, noStop, widths, fieldsOf, bytesOf, wrongLength, atOdds, rightStop, outOfRange}
 use Rattle.decision.specs.Steps.{unless, wordOf}
 
 -- ---- a step's answer
@@ -45,20 +47,12 @@ right-length s h = eqb-true (length s) 8 (not-false (eqb (length s) 8) h)
 
 -- ---- what is in range fits
 
-neither : (a b : Bool) → a || b ≡ false → (a ≡ false) × (b ≡ false)
-neither true b h = absurd (let z : _≡_ {A = ℕ} 0 1 = cc in omega arith)
-neither false b h = (refl, h)
-
 none : (a b c d e : Bool) → a || b || c || d || e ≡ false → (a ≡ false) × (b ≡ false) × (c ≡ false) × (e ≡ false)
 none a b c d e h =
     let x = neither (a || b || c || d) e h in
     let y = neither (a || b || c) d (x .0) in
     let z = neither (a || b) c (y .0) in
     (neither a b (z .0) .0, neither a b (z .0) .1, z .1, x .1)
-
-bit-fits : (b : Bool) → bit b < 2
-bit-fits true = omega arith
-bit-fits false = omega arith
 
 stop-fits : (n : ℕ) → leb n farthest || eqb n noStop ≡ true → n < 2 ^ 24
 stop-fits n h = by (leb n farthest) refl h

@@ -1,9 +1,10 @@
 -- "Decision, 8 bytes": the layout, its reader and its writer. Definitions only.
 use Prim.Native.Nat.{ℕ, _^_}
 use mathlib.Core.List.{List, [], _∷_, _++_}
-use mathlib.Core.Bool.{Bool, cond, not, _||_, Bool·beq}
+use mathlib.Core.Bool.{Bool, not, _||_, Bool·beq}
 use lib.ListN.{length, getD}
 use lib.Dec.{leb, ltb, eqb}
+use Rattle.bits.specs.Fields.{bit}
 use Rattle.bits.specs.Bytes.{fieldsIn, bytesFrom}
 use Rattle.refusal.specs.Lowest.{Rule, lowest}
 use Rattle.refusal.specs.Written.{noRoom, written}
@@ -25,10 +26,6 @@ farthest = 4000000
 -- "16,777,215 for no stop"
 abbrev pub noStop : ℕ
 noStop = 16777215
-
--- the bit that stands for a bool
-abbrev pub bit : Bool → ℕ
-bit b = cond b 1 0
 
 -- mark, time, brake state, penalty, cause, stopping location
 abbrev pub fieldsOf : Decision → List ℕ

@@ -12,7 +12,8 @@ use Rattle.refusal.specs.Number.{numberOf}
 use Rattle.decision.specs.declared.Decision.{Decision}
 use Rattle.decision.specs.declared.Answer.{Answer}
 use Rattle.decision.specs.declared.Answer.the-variants as answer
-use Rattle.decision.specs.Decision.{bit, readDecision}
+use Rattle.bits.specs.Fields.{bit}
+use Rattle.decision.specs.Decision.{readDecision}
 
 -- ---- the text
 

@@ -17,13 +17,14 @@ use Rattle.hundredths.specs.Reading.{mostSpeed, mostPressure}
 use Rattle.hundredths.proofs.Accepted.{bits-back}
 use Rattle.refusal.specs.declared.Verdict.{Verdict}
 use Rattle.refusal.specs.declared.Verdict.the-variants as verdict
+use Rattle.bits.proofs.Ranges.{neither}
 use Rattle.sample.specs.declared.Rear.{Rear}
 use Rattle.sample.specs.declared.Rear.the-variants.{Present, Lost}
 use Rattle.sample.specs.declared.RawSample.{RawSample}
 use Rattle.sample.specs.declared.Answer.the-variants.{Accepted}
 use Rattle.sample.specs.Sample.{widths, mark, presentBit, rearBits, fieldsOf, rearOf, ofFields, rawIn, bytesOf, wrongLength, wrongMark, tooWide, badRear, badReading, readSample}
 use Rattle.sample.specs.RoundTrip.{rearFits, Binary32, WrittenReadsBack, AcceptedWritesBack}
-use Rattle.sample.proofs.Steps.{neither, right-length, narrow, bit-lt, each-good, LaidOut, laid-narrow}
+use Rattle.sample.proofs.Steps.{right-length, narrow, bit-lt, each-good, LaidOut, laid-narrow}
 use Rattle.sample.proofs.Answers.{read-accepted, read-inv, write-accepted, write-inv}
 
 -- ---- what is written reads back the same

@@ -1,7 +1,7 @@
 -- What the conditions of a sample, and the answer of each step of the reader and the judge, tell. Assumes nothing.
 use mathlib.Core.Path.{_≡_, refl, sym, ap, _∙_}
 use Prim.Native.Nat.{ℕ, _^_, _<_}
-use mathlib.Core.Bool.{Bool, true, false, cond, _||_, true≢false, true-or, or-true}
+use mathlib.Core.Bool.{Bool, true, false, cond, _||_, true-or, or-true}
 use mathlib.Core.List.{List}
 use lib.ListN.{length}
 use lib.Dec.{leb, eqb, lit<}
@@ -9,6 +9,7 @@ use borrow.Author.Tests.{eqb-true, leb-false, lt-leb, not-false}
 use Rattle.bits.specs.Bytes.{num, fieldsIn}
 use Rattle.bits.proofs.Fields.{split-fit}
 use Rattle.hundredths.specs.Reading.{outOfRange, mostSpeed, mostPressure}
+use Rattle.bits.proofs.Ranges.{neither}
 use Rattle.sample.specs.declared.Rear.{Rear}
 use Rattle.sample.specs.declared.Rear.the-variants.{Present, Lost}
 use Rattle.sample.specs.declared.RawSample.{RawSample}
@@ -21,10 +22,6 @@ use Rattle.sample.specs.Sample.{widths, presentBit, ofFields, rawIn, wro
 use Rattle.sample.specs.Steps.{unless, judgeRear}
 
 -- ---- conditions
-
-pub neither : (a b : Bool) → (a || b) ≡ false → (a ≡ false) × (b ≡ false)
-neither true b h = absurd (true≢false h)
-neither false b h = (refl, h)
 
 pub right-length : (s : List ℕ) → wrongLength s ≡ false → length s ≡ 20
 unfolding wrongLength

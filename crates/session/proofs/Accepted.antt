@@ -13,7 +13,11 @@ use Rattle.brake.specs.declared.Brake.{Brake}
 use Rattle.brake.specs.State.{stateNumber}
 use Rattle.brake.specs.Sound.{rearMost}
 use Rattle.brake.proofs.Sound.{updated-sound}
+use Rattle.consist.specs.declared.Consist.{Consist}
+use Rattle.track.specs.Track.{layOf}
 use Rattle.walk.specs.declared.Prediction.{Prediction}
+use Rattle.walk.specs.Curve.{penaltyCurve}
+use Rattle.walk.specs.Range.{Walkable}
 use Rattle.judge.specs.Judge.{causeOf}
 use Rattle.session.specs.declared.Session.{Session}
 use Rattle.session.specs.declared.Listed.{Listed}
@@ -32,6 +36,16 @@ predictable x m p h = record {
   brake =
       updated-sound (x .consist) (x .brake) (m .time) (m .front) (m .rear) (record { consist = h .consist; brake = h .brake })
       (record { time-most = omega arith; front-most = h .sample .front; rear-most = rear-most (m .rear) (h .sample .rear) });
+  track = h .track;
+  head = h .head;
+}
+
+-- so it asks no more than is known
+pub walkable : (c : Consist) (k : Brake) (m : Sample) (p : List ℕ) → Predictable c k m p → Walkable c (penaltyCurve c (k .a) (k .b)) (layOf p) (m .head)
+unfolding penaltyCurve
+walkable c k m p h = record {
+  rated = omega arith;
+  curve = record { den = omega arith; num = omega arith; most = omega arith; gain = omega arith; base = omega arith };
   track = h .track;
   head = h .head;
 }

@@ -7,7 +7,7 @@ use native.Mathlib.Omega.{arith}
 use lib.Dec.{leb, ltb, eqb}
 use lib.ListN.{length}
 use borrow.Author.Tests.{not-false, ltb-false, leb-true, le-leb, lt-leb, le-ltb}
-use Rattle.bits.proofs.Ranges.{and-true-left, and-true-right}
+use Rattle.bits.proofs.Ranges.{and-true-left, and-true-right, neither}
 use Rattle.refusal.specs.Lowest.{lowest}
 use Rattle.refusal.specs.declared.Refusal.{Refusal}
 use Rattle.refusal.specs.declared.Refusal.the-variants.{WrongTime, NotCovered}
@@ -86,10 +86,6 @@ opened x h =
       cause = leb-true (x .cause) 8 (and-true-right (x .opened && consist.isSound (x .consist) && brake.isSound (x .consist) (x .brake)) _ h);
     }
 
-neither : (a b : Bool) → (a || b) ≡ false → b ≡ false
-neither true b h = absurd (let z : _≡_ {A = ℕ} 0 1 = cc in omega arith)
-neither false b h = h
-
 -- ---- the decision's fields
 
 pub cause-within : (x : Session) (m : Sample) (p t : List ℕ) → x .cause ≤ 8 → causeAfter x m p t ≤ 8
@@ -166,7 +162,8 @@ module _ (x : Session) (s p t : List ℕ) (h : lowest (rulesBefore x s p t) ≡ 
         last-within,
         ltb-false (lastStart p) (m .head + 32768)
             (neither (ltb (m .head) (c .length) || ltb (m .head - c .length) (profile.segmentAt p 0 .start)) (ltb (lastStart p) (m .head + 32768))
-            (accepted _ _ _ (accepted _ _ _ after-8 .1) .0)),
+            (accepted _ _ _ (accepted _ _ _ after-8 .1) .0)
+            .1),
       )
 
   pub ready : Ready x (sampleIn s) p

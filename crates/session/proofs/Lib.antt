@@ -5,4 +5,5 @@ pub mod Admitted
 pub mod Calls
 pub mod Laws
 pub mod Unique
+pub mod Computing
 pub mod Figures

@@ -1,17 +1,9 @@
 -- `decision::to_word` meets its contract. Assumes nothing.
-use mathlib.Core.Path.{_≡_, refl}
-use mathlib.Core.Bool.{Bool, true, false}
-use mir.Val.{boolByte}
 use native.Mathlib.Omega.{arith}
 use borrow.Author.Needs.{needs}
-use Rattle.decision.specs.Decision.{bit}
+use Rattle.bits.proofs.Bit.{same-bit}
 use Rattle.decision.proofs.to_word.Statement.{statement}
 use Rattle.decision.proofs.to_word.Tie as tie
-
--- what the code casts the penalty to is its bit
-same-bit : (b : Bool) → boolByte b ≡ bit b
-same-bit true = refl
-same-bit false = refl
 
 cast-result : tie.Need-cast-result
 cast-result c = search needs

@@ -1,20 +1,14 @@
 -- `feed::line::put_decision` meets its contract: the numbers are the decision's. Assumes nothing.
-use mathlib.Core.Path.{_≡_, refl, ap, _∙_}
-use mathlib.Core.Bool.{Bool, true, false}
+use mathlib.Core.Path.{ap, _∙_}
 use mathlib.Core.List.{[], _∷_}
 use Prim.Native.Nat.{ℕ}
 use native.Mathlib.Omega.{arith}
-use mir.Val.{boolByte}
 use borrow.Author.Needs.{needs}
-use Rattle.decision.specs.Decision.{bit}
+use Rattle.bits.proofs.Bit.{same-bit}
 use Rattle.feed.specs.Line.{spaced, decisionText, putLast}
 use Rattle.feed.proofs.Put.{put-from}
 use Rattle.feed.proofs.line.put_decision.Statement.{statement}
 use Rattle.feed.proofs.line.put_decision.Tie as tie
-
-same-bit : (b : Bool) → boolByte b ≡ bit b
-same-bit true = refl
-same-bit false = refl
 
 cast-t4 : tie.Need-cast-t4
 cast-t4 c = search needs

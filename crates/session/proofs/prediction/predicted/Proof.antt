@@ -1,32 +1,15 @@
 -- `session::prediction::predicted` meets its contract. Assumes nothing.
 use mathlib.Core.Path.{ap₂, _∙_}
-use mathlib.Core.List.{List}
-use native.Mathlib.Omega.{arith}
 use borrow.Author.Needs.{needs}
-use Prim.Native.Nat.{ℕ}
 use Rattle.track.specs.declared.Track.{Track}
-use Rattle.track.specs.Track.{layOf}
-use Rattle.consist.specs.declared.Consist.{Consist}
-use Rattle.brake.specs.declared.Brake.{Brake}
-use Rattle.sample.specs.declared.Sample.{Sample}
 use Rattle.walk.specs.declared.Curve.{Curve}
-use Rattle.walk.specs.Curve.{forceAt, penaltyCurve}
+use Rattle.walk.specs.Curve.{forceAt}
 use Rattle.walk.specs.Step.{groundOf}
 use Rattle.walk.specs.Walk.{predictOf}
-use Rattle.walk.specs.Range.{Walkable}
 use Rattle.session.specs.Sample.{predictionOf}
-use Rattle.session.specs.Steps.{Predictable}
+use Rattle.session.proofs.Accepted.{walkable}
 use Rattle.session.proofs.prediction.predicted.Statement.{statement}
 use Rattle.session.proofs.prediction.predicted.Tie as tie
-
-walkable : (c : Consist) (k : Brake) (m : Sample) (p : List ℕ) → Predictable c k m p → Walkable c (penaltyCurve c (k .a) (k .b)) (layOf p) (m .head)
-unfolding penaltyCurve
-walkable c k m p h = record {
-  rated = omega arith;
-  curve = record { den = omega arith; num = omega arith; most = omega arith; gain = omega arith; base = omega arith };
-  track = h .track;
-  head = h .head;
-}
 
 penalty-requires : tie.Need-penalty-requires
 penalty-requires c κs = search needs

@@ -1,0 +1,28 @@
+-- One program meets the contracts. Assumes nothing.
+use mathlib.Core.Path.{refl, ap}
+use mathlib.Core.List.{List, []}
+use Prim.Native.Nat.{ℕ}
+use denote.Ref.{RefT}
+use Rattle.session.specs.declared.Answer.{Answer}
+use Rattle.demands.specs.Program.{sampled, ours, OneProgram}
+
+-- a slice with these bytes; where it lies does not matter
+lent : List ℕ → RefT (List ℕ)
+lent bytes = record { ptr = (0, 0); name = 0; now = bytes }
+
+pub one-program : OneProgram
+unfolding lent
+one-program = record {
+  meets = record {
+    none = λ κs a x. refl;
+    opens = λ κs a x. refl;
+    samples = λ κs a x h. ap {B = Answer × List ℕ} (λ (l : List ℕ). (sampled ours κs a .0, l)) h;
+  };
+  no-other = λ p h. record {
+    none = h .none tt tt tt;
+    opens = λ x s. h .opens ([], tt) (x, (lent s, tt)) (x, (lent s, tt));
+    samples = λ x s q t out.
+        h .samples ([], ([], ([], ([], tt)))) (x, (lent s, (lent q, (lent t, (lent out, tt)))))
+        (x, (lent s, (lent q, (lent t, (lent (p .samples x s q t out .1), tt))))) refl;
+  };
+}

@@ -1,0 +1,56 @@
+-- "Figures to meet", all cases marked P as one table under a single statement. Its proof is `figures` of proofs/Figures.antt.
+use mathlib.Core.Path.{_≡_}
+use mathlib.Core.Bool.{true}
+use mathlib.Core.List.{[], _∷_}
+use lib.IntN.{pos, negsuc}
+use Rattle.hundredths.specs.declared.Reading.the-variants.{Hundredths}
+use Rattle.hundredths.specs.Figures.{pressureAt, speedAt}
+use Rattle.consist.specs.Figures.{train}
+use Rattle.decision.specs.declared.Decision.{Decision}
+use Rattle.decision.specs.declared.Answer.the-variants.{Accepted}
+use Rattle.decision.specs.Decision.{readDecision}
+use Rattle.brake.specs.Rules.{equalizationService, equalizationEmergency, combined, fallService}
+use Rattle.track.specs.Track.{gradeUnder}
+use Rattle.track.specs.Figures.{dip}
+use Rattle.walk.specs.Curve.{cylinderAt, forceAt, penaltyCurve}
+use Rattle.walk.specs.Step.{loss, stepTime}
+use Rattle.judge.specs.Judge.{offsetFor}
+use Rattle.session.specs.Sample.{sampleCall}
+use Rattle.session.specs.Figures.{standing, sample, profile, targets, out}
+use Rattle.feed.specs.Line.{decisionText}
+
+-- `train` is the train of the case: 10 cars, 40 axles, 1,000 tons, 600 ft, 200,000 lb, 30,000 ms, recharge 50, set 9,000, offset 500.
+-- `standing` is its session after the first sample. `negsuc n` is -(n + 1).
+
+-- `1 0 1 1 5032`: time, state, penalty, cause, stopping location
+abbrev pub second : Decision
+second = record { time = 1; state = 0; penalty = true; cause = 1; stop = 5032 }
+
+pub record Figures : Type 0 where
+  -- "Equalization, A 9,000, B 0: 6,428."
+  pub equalization : equalizationService 9000 0 ≡ 6428
+  -- "Emergency, A 7,000, B 5,000, nominal 9,000: 7,714, then A 8,166."
+  pub emergency : equalizationEmergency 7000 5000 9000 ≡ 7714
+  pub then-A : combined 7000 9000 ≡ 8166
+  -- "Set 9,000, time 30,000: fall 85."
+  pub fall : fallService train ≡ 85
+  -- "That train, A 9,000, B 0, t 1,090: p 232; rated 200,000: F 7,250."
+  pub cylinder : cylinderAt (penaltyCurve train 9000 0) 1090 ≡ 232
+  pub force : forceAt (train .rated) (penaltyCurve train 9000 0) 1090 ≡ 7250
+  -- "51 ft at 50 and 49 ft at -53, length 100: G -1." The track is `dip`.
+  pub grade : gradeUnder dip 100 100 ≡ negsuc 0
+  -- "W 1,000, N 10, n 40, s 1,000, q 1,000,000, F and C 0: level, loses 3,760; G -100, gains 44,141."
+  pub loses : loss train 0 1000 1000000 (pos 0) 0 ≡ pos 3760
+  pub gains : loss train 0 1000 1000000 (negsuc 99) 0 ≡ negsuc 44140
+  -- "Step time: s 1, 1,090,909; s 10,000, 109."
+  pub long-step : stepTime 1 ≡ 1090909
+  pub short-step : stepTime 10000 ≡ 109
+  -- "Offset 500, 40 to 20 mph: 375; 30 to 20: 278."
+  pub offset-40 : offsetFor 500 4000 2000 ≡ 375
+  pub offset-30 : offsetFor 500 3000 2000 ≡ 278
+  -- "Bits 3F333333: pressure 69, speed 70."
+  pub pressure : pressureAt 0x3f33_3333 ≡ Hundredths 69
+  pub speed : speedAt 0x3f33_3333 ≡ Hundredths 70
+  -- "P for the second line": what is decided on the sample 1, 5,000, 1.0, and its text
+  pub second-line : readDecision (sampleCall standing (sample 1 63 128) profile targets out .1) ≡ Accepted second
+  pub second-text : decisionText second ≡ 49 ∷ 32 ∷ 48 ∷ 32 ∷ 49 ∷ 32 ∷ 49 ∷ 32 ∷ 53 ∷ 48 ∷ 51 ∷ 50 ∷ 10 ∷ []

@@ -1,0 +1,60 @@
+-- "Show that no second answer satisfies it." Statements; proofs/Unique.antt proves them.
+-- Each contract is taken as the check reads it from the source: `Post` of what is given, the answer, and what was given, after the call.
+use mathlib.Core.Path.{_≡_}
+use denote.Ref.{now}
+use Rattle.refusal.proofs.number.Reads as refusal-number
+use Rattle.refusal.proofs.verdict_number.Reads as refusal-verdict-number
+use Rattle.consist.proofs.read.Reads as consist-read
+use Rattle.consist.proofs.is_sound.Reads as consist-is-sound
+use Rattle.consist.proofs.write.Reads as consist-write
+use Rattle.profile.proofs.judge.Reads as profile-judge
+use Rattle.profile.proofs.segment_at.Reads as profile-segment-at
+use Rattle.profile.proofs.write.Reads as profile-write
+use Rattle.targets.proofs.judge.Reads as targets-judge
+use Rattle.targets.proofs.target_at.Reads as targets-target-at
+use Rattle.targets.proofs.write.Reads as targets-write
+use Rattle.sample.proofs.lay_out.Reads as sample-lay-out
+use Rattle.sample.proofs.judge.Reads as sample-judge
+use Rattle.sample.proofs.read.Reads as sample-read
+use Rattle.sample.proofs.write.Reads as sample-write
+use Rattle.decision.proofs.read.Reads as decision-read
+use Rattle.decision.proofs.write.Reads as decision-write
+use Rattle.session.proofs.none.Reads as session-none
+use Rattle.session.proofs.is_open.Reads as session-is-open
+use Rattle.session.proofs.open.Reads as session-open
+use Rattle.session.proofs.sample.Reads as session-sample
+
+module _ {L : Type 0} {Given Answer Exit : L → Type 0} (Post : (l : L) → Given l → Answer l → Exit l → Type 0) where
+  -- of the same input, two answers that the contract allows are one
+  abbrev pub One : Type 0
+  One = (l : L) (a : Given l) (r₁ r₂ : Answer l) (x₁ x₂ : Exit l) → Post l a r₁ x₁ → Post l a r₂ x₂ → r₁ ≡ r₂
+
+  -- and so is every byte that was lent to be written
+  abbrev pub OneWith : {Lent : Type 0} → ((l : L) → Exit l → Lent) → Type 0
+  OneWith {Lent} lent =
+      (l : L) (a : Given l) (r₁ r₂ : Answer l) (x₁ x₂ : Exit l) → Post l a r₁ x₁ → Post l a r₂ x₂
+      → _≡_ {A = Answer l × Lent} (r₁, lent l x₁) (r₂, lent l x₂)
+
+pub record Unique : Type 0 where
+  pub refusal-number : One refusal-number.Post
+  pub refusal-verdict-number : One refusal-verdict-number.Post
+  pub consist-read : One consist-read.Post
+  pub consist-is-sound : One consist-is-sound.Post
+  pub consist-write : OneWith consist-write.Post (λ l x. now (x .1 .0))
+  pub profile-judge : One profile-judge.Post
+  pub profile-segment-at : One profile-segment-at.Post
+  pub profile-write : OneWith profile-write.Post (λ l x. now (x .1 .1 .1 .0))
+  pub targets-judge : One targets-judge.Post
+  pub targets-target-at : One targets-target-at.Post
+  pub targets-write : OneWith targets-write.Post (λ l x. now (x .1 .1 .0))
+  pub sample-lay-out : One sample-lay-out.Post
+  pub sample-judge : One sample-judge.Post
+  pub sample-read : One sample-read.Post
+  pub sample-write : OneWith sample-write.Post (λ l x. now (x .1 .0))
+  pub decision-read : One decision-read.Post
+  pub decision-write : OneWith decision-write.Post (λ l x. now (x .1 .0))
+  pub session-none : One session-none.Post
+  pub session-is-open : One session-is-open.Post
+  -- the session is part of the answer
+  pub session-open : One session-open.Post
+  pub session-sample : OneWith session-sample.Post (λ l x. now (x .1 .1 .1 .1 .0))

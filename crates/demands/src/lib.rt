@@ -1,0 +1,1 @@
+// No running code: statements in specs/, proved in proofs/ from what the other crates prove.

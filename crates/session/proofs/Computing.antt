@@ -1,0 +1,28 @@
+-- A name for every definition that a session's calls compute through: a proof that says `unfolding computing` unfolds them all. Assumes nothing.
+use lib.Ieee.{ofBits, isNan}
+use Rattle.refusal.specs.Lowest.{lowest}
+use Rattle.refusal.specs.Written.{noRoom}
+use Rattle.whole.specs.Floor.{floorDiv}
+use Rattle.whole.specs.Ceiling.{ceilDiv}
+use Rattle.whole.specs.Root.{digits, rootOf}
+use Rattle.hundredths.specs.Reading as reading
+use Rattle.consist.specs.Consist as consist
+use Rattle.profile.specs.Profile as profile
+use Rattle.targets.specs.Targets as targets
+use Rattle.sample.specs.Sample as sample
+use Rattle.decision.specs.Decision as decision
+use Rattle.brake.specs.Readings as readings
+use Rattle.brake.specs.Rules as rules
+use Rattle.brake.specs.Sound as sound
+use Rattle.track.specs.Track as track
+use Rattle.walk.specs.Curve as curve
+use Rattle.walk.specs.Step as step
+use Rattle.walk.specs.Walk as walk
+use Rattle.judge.specs.Judge as judge
+use Rattle.session.specs.Session.{isOpen}
+use Rattle.session.specs.Open.{openOf}
+use Rattle.session.specs.Sample.{wrongTime, notCovered, predictionOf, calledOf, causeAfter, sampleCall}
+
+unfoldable pub computing : Unit {0}
+unfolding ofBits lowest noRoom floorDiv ceilDiv digits rootOf isOpen openOf wrongTime notCovered predictionOf calledOf causeAfter sampleCall reading.hundredthsOf reading.outOfRange consist.consistIn consist.wrongLength consist.inRange consist.tooLight consist.isSound consist.readConsist profile.counted profile.inRange profile.good profile.ends profile.kept profile.recordAt profile.segmentAt profile.spareZero profile.keptIn targets.counted targets.inRange targets.good targets.kept targets.recordAt targets.targetAt targets.keptIn sample.rawIn sample.wrongLength sample.wrongMark sample.badReading decision.decisionIn decision.bytesOf decision.wrongLength decision.wrongMark decision.outOfRange decision.readDecision readings.elapsedOf readings.rateOf readings.rearOf readings.nominalOf readings.readingOf readings.application readings.release readings.emergency rules.startEmergency rules.startService rules.startApplying rules.startCharging rules.fallInService rules.fallInEmergency rules.inCharged rules.recharged rules.inCharging rules.fallOrHold rules.inApplyingService rules.inHoldingService rules.inApplyingEmergency rules.inHoldingEmergency rules.updateOf sound.isSound track.layOf track.feet track.gradeFeet track.curveFeet track.gradeUnder track.curveUnder curve.dropAt curve.cylinderAt curve.forceAt curve.penaltyCurve step.opposing step.loss step.stepTime step.stepOf walk.tooFast walk.walkTo walk.placeFor walk.predictOf judge.isJudged judge.offsetFor judge.isCalled judge.firstFrom judge.causeOf isNan
+computing = tt
