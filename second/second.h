@@ -78,7 +78,8 @@ int second_judge(second_session *session,
                  const unsigned char *targets, size_t targets_count,
                  unsigned char *output, size_t output_count);
 
-/* The readers the program itself uses.  0, or 6 and 7. */
+/* The readers.  0, or 2, 4, 5; 6; 7. */
+int second_read_consist(const unsigned char *bytes, size_t count, second_consist *train);
 int second_read_profile(const unsigned char *bytes, size_t count, second_profile *profile);
 int second_read_targets(const unsigned char *bytes, size_t count, second_targets *targets);
 
@@ -90,7 +91,12 @@ int second_predict(const second_session *session, const second_sample *sample,
                    const second_profile *profile, const second_targets *targets,
                    second_prediction *prediction);
 
-/* Field reading, for users of the decision's bytes. */
+/* What a sample of 20 bytes is refused for: 1, or 0 for 3 and for 8. */
+int second_sample_well_formed(const unsigned char *bytes);
+int second_readings_in_range(const unsigned char *bytes);
+
+/* Fields, for users of a record's bytes. */
 int64_t second_bits(const unsigned char *bytes, int first, int width);
+void second_put_bits(unsigned char *bytes, int first, int width, int64_t value);
 
 #endif

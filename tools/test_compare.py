@@ -43,8 +43,8 @@ class Compare(unittest.TestCase):
                     if len(feed.random_feed(seed)) > 200)
         length = len(feed.random_feed(seed))
         self.assertIn("seed %d (" % seed, out)
-        self.assertIn("line 1 left:  %d\n" % length, out)
-        self.assertIn("line 1 right: %d\n" % (length + 1), out)
+        self.assertIn("line 1 of program 1: %d\n" % length, out)
+        self.assertIn("line 1 of program 2: %d\n" % (length + 1), out)
         name, = os.listdir(self.place.name)
         with open(os.path.join(self.place.name, name), "rb") as file:
             self.assertEqual(file.read(), feed.random_feed(seed))
@@ -52,21 +52,29 @@ class Compare(unittest.TestCase):
     def test_ended_output_is_a_difference(self):
         status, out, _ = self.run_compare("3", "--", *COUNT, "--", "true")
         self.assertEqual(status, 1)
-        self.assertIn("line 1 right: (ended)\n", out)
+        self.assertIn("line 1 of program 2: (ended)\n", out)
         status, out, _ = self.run_compare("3", "--", "echo", "x 2", "--", "printf", "x 2")
         self.assertEqual(status, 1)
-        self.assertIn("line 1 left:  x 2\nline 1 right: x 2 (no newline)\n", out)
+        self.assertIn("line 1 of program 1: x 2\nline 1 of program 2: x 2 (no newline)\n", out)
 
     def test_signal_is_a_difference(self):
         status, out, _ = self.run_compare("3", "--", "true", "--", "sh", "-c", "kill -SEGV $$")
         self.assertEqual(status, 1)
-        self.assertIn("right was ended by signal 11", out)
+        self.assertIn("program 2 was ended by signal 11", out)
 
     def test_hanging_is_a_difference(self):
         status, out, _ = self.run_compare("3", "--timeout", "0.2", "--", "true", "--",
                                           "sleep", "10")
         self.assertEqual(status, 1)
-        self.assertIn("right ran out of time", out)
+        self.assertIn("program 2 ran out of time", out)
+
+    def test_three_programs(self):
+        status, out, _ = self.run_compare("7", "--", *COUNT, "--", *COUNT, "--", *COUNT)
+        self.assertEqual(status, 0, out)
+        self.assertIn("program 3 0:7", out)
+        status, out, _ = self.run_compare("3", "--", "echo", "x 2", "--", "echo", "x 2", "--", "true")
+        self.assertEqual(status, 1)
+        self.assertIn("line 1 of program 1: x 2\nline 1 of program 3: (ended)\n", out)
 
     def test_what_never_occurred(self):
         status, out, _ = self.run_compare("300", "--", "true", "--", "true")

@@ -1,0 +1,25 @@
+# Few words over the commands that do the work.
+SHELL := bash
+.SHELLFLAGS := -o pipefail -c
+.PHONY: check test run bench dist
+
+# The gate, its words kept for `make dist`.
+check:
+	@{ echo "commit $$(git rev-parse HEAD)"; .ci/run; } 2>&1 | tee gate.log
+
+# The tests of the second program and the tools, without a proof.
+test:
+	@python3 -B -m unittest discover -q -s tools
+
+# The session program on a feed: make run FEED=examples/trip.txt
+FEED ?= examples/case-5531.txt
+run:
+	@./run $(FEED)
+
+# The archive against plain C.
+bench:
+	@bench/run
+
+# The release in dist/, after `make check` on the same commit.
+dist:
+	@tools/dist

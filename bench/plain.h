@@ -1,0 +1,38 @@
+/*
+ * plain.h - the rules of document 01 in plain C, for the bench to compare with.
+ *
+ * The calls are those of the archive; the session is a struct, as a C program
+ * would hold it.
+ */
+#ifndef PLAIN_H
+#define PLAIN_H
+
+#include <stdbool.h>
+#include <stddef.h>
+#include <stdint.h>
+
+typedef struct {
+    int64_t cars, axles, weight, length, rated, application, recharge, set, offset;
+} plain_consist;
+
+typedef struct {
+    int state;
+    int64_t hold, a, b, equalization, fall, last_front, last_rear, last_time;
+} plain_brakes;
+
+/* All zero is "no session is open". */
+typedef struct {
+    bool open, begun;
+    plain_consist train;
+    plain_brakes brakes;
+    int cause;
+} plain_session;
+
+/* 0, or a refusal's number with everything as it was. */
+int plain_open(plain_session *session, const uint8_t *consist, size_t count);
+int plain_sample(plain_session *session, const uint8_t *sample, size_t sample_count,
+                 const uint8_t *profile, size_t profile_count,
+                 const uint8_t *targets, size_t target_count,
+                 uint8_t *decision, size_t decision_count);
+
+#endif

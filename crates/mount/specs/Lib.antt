@@ -1,0 +1,6 @@
+-- The calls for C.
+pub mod Told
+pub mod Mount
+pub mod Records
+pub mod Exactly
+pub mod Laws

@@ -1,0 +1,202 @@
+/*
+ * calls.c - see calls.h.
+ */
+#include "calls.h"
+
+#include <stdio.h>
+#include <string.h>
+
+enum { TOLD = 10 }; /* faults that are told one by one */
+
+tally tried;
+
+static lent session, consist, sample, profile, targets, out, first, second, third;
+
+void calls_make(void)
+{
+    lent *const all[] = {&session, &consist, &sample, &profile, &targets, &out, &first, &second, &third};
+    for (size_t i = 0; i < sizeof all / sizeof *all; i++)
+        lent_make(all[i]);
+}
+
+static void hold(bool right, const char *call, const char *what)
+{
+    if (right)
+        return;
+    tried.faults++;
+    if (tried.faults <= TOLD)
+        fprintf(stderr, "hostile: call %lu, %s: %s\n", tried.calls, call, what);
+}
+
+static void hold_answer(unsigned answer, unsigned wanted, const char *call)
+{
+    char what[64];
+    tried.calls++;
+    snprintf(what, sizeof what, "answers %u, and %u is due", answer, wanted);
+    hold(answer == wanted, call, what);
+}
+
+static void hold_read(const lent *buffer, const char *call)
+{
+    hold(lent_kept_in(buffer) && lent_same_from(buffer, 0), call, "writes what it is lent to read");
+}
+
+/* The due bytes stand at the front, and every other byte as it was. */
+static void hold_written(const lent *buffer, const void *due, size_t count, const char *call)
+{
+    hold(lent_kept_in(buffer), call, "writes outside of what it is lent");
+    hold(count <= buffer->count && lent_same_from(buffer, count), call, "writes past what it is to write");
+    hold(count > buffer->count || count == 0 || memcmp(buffer->bytes, due, count) == 0, call, "writes other bytes than are due");
+}
+
+/* Elements of `size` bytes, lent as bytes. */
+static void lend_numbers(lent *buffer, part numbers, size_t size)
+{
+    part bytes = {numbers.bytes, numbers.count * size};
+    lend(buffer, bytes);
+}
+
+unsigned try_open(part session_before, part consist_given, uint8_t *opened)
+{
+    uint8_t due[BUONGILACH_SESSION_BYTES];
+    unsigned wanted = expected_open(session_before.count, consist_given, due);
+    lend(&session, session_before);
+    lend(&consist, consist_given);
+    unsigned answer = buongilach_open(session.bytes, session.count, consist.bytes, consist.count);
+    hold_answer(answer, wanted, "open");
+    hold_read(&consist, "open");
+    hold_written(&session, due, wanted == 0 ? sizeof due : 0, "open");
+    if (answer == 0) {
+        hold(buongilach_is_open(session.bytes, BUONGILACH_SESSION_BYTES), "is_open", "denies an opened session");
+        if (opened != NULL)
+            memcpy(opened, session.bytes, BUONGILACH_SESSION_BYTES);
+    }
+    return answer;
+}
+
+/* The library's answer and the session that follows, counted. */
+static void count_sample(unsigned answer, uint8_t *next)
+{
+    tried.answers[answer < 13 ? answer : 0]++;
+    if (answer != 0)
+        return;
+    hold(buongilach_is_open(session.bytes, session.count), "is_open", "denies the session after a sample");
+    tried.states[session.bytes[2] / 32 % 6]++;
+    if (next != NULL)
+        memcpy(next, session.bytes, BUONGILACH_SESSION_BYTES);
+}
+
+unsigned try_sample(part session_before, part sample_given, part profile_given, part targets_given, part decision_before,
+                    uint8_t *next)
+{
+    uint8_t due_session[BUONGILACH_SESSION_BYTES];
+    uint8_t due_decision[BUONGILACH_DECISION_BYTES];
+    unsigned wanted = expected_sample(session_before, sample_given, profile_given, targets_given, decision_before.count,
+                                      due_session, due_decision);
+    lend(&session, session_before);
+    lend(&sample, sample_given);
+    lend(&profile, profile_given);
+    lend(&targets, targets_given);
+    lend(&out, decision_before);
+    hold(buongilach_is_open(session.bytes, session.count) == (wanted != 1), "is_open", "answers otherwise than is due");
+    unsigned answer = buongilach_sample(session.bytes, session.count, sample.bytes, sample.count, profile.bytes, profile.count,
+                                        targets.bytes, targets.count, out.bytes, out.count);
+    hold_answer(answer, wanted, "sample");
+    hold_read(&sample, "sample");
+    hold_read(&profile, "sample");
+    hold_read(&targets, "sample");
+    hold_written(&session, due_session, wanted == 0 ? sizeof due_session : 0, "sample (session)");
+    hold_written(&out, due_decision, wanted == 0 ? sizeof due_decision : 0, "sample (decision)");
+    count_sample(answer, next);
+    return answer;
+}
+
+void try_judges(part consist_given, part sample_given, part profile_given, part targets_given)
+{
+    lend(&consist, consist_given);
+    lend(&sample, sample_given);
+    lend(&profile, profile_given);
+    lend(&targets, targets_given);
+    hold_answer(buongilach_judge_consist(consist.bytes, consist.count), expected_judge_consist(consist_given), "judge_consist");
+    hold_answer(buongilach_judge_sample(sample.bytes, sample.count), expected_judge_sample(sample_given), "judge_sample");
+    hold_answer(buongilach_judge_profile(profile.bytes, profile.count), expected_judge_profile(profile_given), "judge_profile");
+    hold_answer(buongilach_judge_targets(targets.bytes, targets.count), expected_judge_targets(targets_given), "judge_targets");
+    hold_read(&consist, "judge_consist");
+    hold_read(&sample, "judge_sample");
+    hold_read(&profile, "judge_profile");
+    hold_read(&targets, "judge_targets");
+}
+
+unsigned try_write_consist(const uint32_t *fields, part out_before)
+{
+    uint8_t due[BUONGILACH_CONSIST_BYTES];
+    unsigned wanted = expected_write_consist(fields, out_before.count, due);
+    lend(&out, out_before);
+    unsigned answer = buongilach_write_consist((uint16_t)fields[0], (uint16_t)fields[1], (uint16_t)fields[2],
+                                               (uint16_t)fields[3], fields[4], fields[5], (uint16_t)fields[6],
+                                               (uint16_t)fields[7], (uint16_t)fields[8], out.bytes, out.count);
+    hold_answer(answer, wanted, "write_consist");
+    hold_written(&out, due, wanted == 0 ? sizeof due : 0, "write_consist");
+    return answer;
+}
+
+unsigned try_write_profile(part starts, part grades, part curvatures, part out_before)
+{
+    uint8_t due[BUONGILACH_PROFILE_BYTES_MOST];
+    unsigned wanted = expected_write_profile(starts, grades, curvatures, out_before.count, due);
+    lend_numbers(&first, starts, sizeof(uint32_t));
+    lend_numbers(&second, grades, sizeof(int16_t));
+    lend_numbers(&third, curvatures, sizeof(uint16_t));
+    lend(&out, out_before);
+    unsigned answer = buongilach_write_profile((const uint32_t *)(const void *)first.bytes, starts.count,
+                                               (const int16_t *)(const void *)second.bytes, grades.count,
+                                               (const uint16_t *)(const void *)third.bytes, curvatures.count, out.bytes,
+                                               out.count);
+    hold_answer(answer, wanted, "write_profile");
+    hold_read(&first, "write_profile");
+    hold_read(&second, "write_profile");
+    hold_read(&third, "write_profile");
+    hold_written(&out, due, wanted == 0 ? starts.count * BUONGILACH_PROFILE_RECORD_BYTES : 0, "write_profile");
+    return answer;
+}
+
+unsigned try_write_targets(part locations, part speeds, part out_before)
+{
+    uint8_t due[BUONGILACH_TARGETS_BYTES_MOST];
+    unsigned wanted = expected_write_targets(locations, speeds, out_before.count, due);
+    lend_numbers(&first, locations, sizeof(uint32_t));
+    lend_numbers(&second, speeds, sizeof(uint16_t));
+    lend(&out, out_before);
+    unsigned answer = buongilach_write_targets((const uint32_t *)(const void *)first.bytes, locations.count,
+                                               (const uint16_t *)(const void *)second.bytes, speeds.count, out.bytes, out.count);
+    hold_answer(answer, wanted, "write_targets");
+    hold_read(&first, "write_targets");
+    hold_read(&second, "write_targets");
+    hold_written(&out, due, wanted == 0 ? locations.count * BUONGILACH_TARGET_RECORD_BYTES : 0, "write_targets");
+    return answer;
+}
+
+unsigned try_write_sample(const uint32_t *fields, part out_before)
+{
+    uint8_t due[BUONGILACH_SAMPLE_BYTES];
+    unsigned wanted = expected_write_sample(fields, out_before.count, due);
+    lend(&out, out_before);
+    unsigned answer = buongilach_write_sample(fields[0], fields[1], fields[2], fields[3], fields[4] != 0, fields[5], out.bytes,
+                                              out.count);
+    hold_answer(answer, wanted, "write_sample");
+    hold_written(&out, due, wanted == 0 ? sizeof due : 0, "write_sample");
+    return answer;
+}
+
+unsigned try_read_decision(part decision, part numbers)
+{
+    uint32_t due[BUONGILACH_DECISION_NUMBERS];
+    unsigned wanted = expected_read_decision(decision, numbers.count, due);
+    lend(&first, decision);
+    lend_numbers(&second, numbers, sizeof(uint32_t));
+    unsigned answer = buongilach_read_decision(first.bytes, first.count, (uint32_t *)(void *)second.bytes, numbers.count);
+    hold_answer(answer, wanted, "read_decision");
+    hold_read(&first, "read_decision");
+    hold_written(&second, due, wanted == 0 ? sizeof due : 0, "read_decision");
+    return answer;
+}

@@ -1,0 +1,30 @@
+/*
+ * calls.h - one call of each function of the library, its buffers watched and its answer and every lent byte held to expected.h.
+ */
+#ifndef CALLS_H
+#define CALLS_H
+
+#include "expected.h"
+
+/* What was tried, and what was wrong. */
+typedef struct {
+    unsigned long calls, faults;
+    unsigned long answers[13]; /* of sample calls */
+    unsigned long states[6];   /* of accepted ones */
+} tally;
+
+extern tally tried;
+
+void calls_make(void);
+
+/* Each answers what the library answered. What is written to is given as the part that stands there before the call. */
+unsigned try_open(part session, part consist, uint8_t *opened);
+unsigned try_sample(part session, part sample, part profile, part targets, part decision, uint8_t *next);
+void try_judges(part consist, part sample, part profile, part targets);
+unsigned try_write_consist(const uint32_t *fields, part out);
+unsigned try_write_profile(part starts, part grades, part curvatures, part out);
+unsigned try_write_targets(part locations, part speeds, part out);
+unsigned try_write_sample(const uint32_t *fields, part out);
+unsigned try_read_decision(part decision, part numbers);
+
+#endif

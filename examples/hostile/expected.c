@@ -1,0 +1,242 @@
+/*
+ * expected.c - see expected.h.
+ */
+#include "expected.h"
+
+#include <string.h>
+
+enum { MARK = 0x4253, MOST_PRESSURE = 16000, MOST_B = 9434, MOST_FALL = 3142, MOST_CAUSE = 8, BITS_24 = 1 << 24 };
+
+/* ---- the session's record */
+
+/* Where each field begins, and its width: mark, state, sampled, cause, last time, hold, A, B, equalization, fall, last front and
+ * last rear; the consist follows at byte 20. */
+static const int held_at[12] = {0, 16, 19, 20, 24, 48, 64, 80, 96, 112, 128, 144};
+static const int held_width[12] = {16, 3, 1, 4, 24, 16, 16, 16, 16, 16, 16, 16};
+enum { HELD_CONSIST = 20 };
+
+static int64_t held_field(const uint8_t *bytes, int place)
+{
+    return second_bits(bytes, held_at[place], held_width[place]);
+}
+
+/* A and B together, by state (crates/brake/specs/Sound.antt, `isBalanced`). */
+static bool is_balanced(const second_brakes *k, int64_t set)
+{
+    int64_t service = 5 * k->a + 2 * k->b;
+    int64_t emergency = 12 * k->a + 2 * k->b;
+    switch (k->state) {
+    case 1:
+        return service <= 5 * set && service <= 7 * k->equalization + 6;
+    case 2:
+        return service <= 5 * set;
+    case 3:
+        return emergency <= 12 * set && emergency <= 14 * k->equalization + 13;
+    case 4:
+        return emergency <= 12 * set;
+    default:
+        return k->b == 0;
+    }
+}
+
+/* `isSound` there. */
+static bool is_sound(const second_brakes *k, int64_t set)
+{
+    return k->state <= 5 && k->a <= set && k->b <= MOST_B && 7 * k->equalization <= 6 * set && k->fall <= MOST_FALL
+        && k->hold <= MOST_PRESSURE && k->last_front <= MOST_PRESSURE && k->last_rear <= MOST_PRESSURE
+        && is_balanced(k, set);
+}
+
+static void read_brakes(const uint8_t *bytes, second_brakes *k)
+{
+    k->state = held_field(bytes, 1);
+    k->last_time = held_field(bytes, 4);
+    k->hold = held_field(bytes, 5);
+    k->a = held_field(bytes, 6);
+    k->b = held_field(bytes, 7);
+    k->equalization = held_field(bytes, 8);
+    k->fall = held_field(bytes, 9);
+    k->last_front = held_field(bytes, 10);
+    k->last_rear = held_field(bytes, 11);
+}
+
+bool expected_held(part bytes, second_session *session)
+{
+    const uint8_t *at = bytes.bytes;
+    if (bytes.count != BUONGILACH_SESSION_BYTES || held_field(at, 0) != MARK)
+        return false;
+    memset(session, 0, sizeof *session);
+    session->open = 1;
+    session->begun = (int)held_field(at, 2);
+    session->cause = held_field(at, 3);
+    read_brakes(at, &session->brakes);
+    return second_read_consist(at + HELD_CONSIST, BUONGILACH_CONSIST_BYTES, &session->train) == 0
+        && is_sound(&session->brakes, session->train.set) && session->cause <= MOST_CAUSE;
+}
+
+static void put_consist(const second_consist *train, uint8_t *record)
+{
+    const int64_t fields[9] = {train->cars, train->axles, train->weight, train->length, train->rated,
+                               train->application, train->recharge, train->set, train->offset};
+    static const int widths[9] = {9, 11, 15, 15, 24, 18, 10, 14, 12};
+    int at = 0;
+    for (int i = 0; i < 9; i++) {
+        second_put_bits(record, at, widths[i], fields[i]);
+        at += widths[i];
+    }
+}
+
+void expected_bytes(const second_session *session, uint8_t *bytes)
+{
+    const second_brakes *k = &session->brakes;
+    const int64_t fields[12] = {MARK, k->state, session->begun, session->cause, k->last_time, k->hold,
+                                k->a, k->b, k->equalization, k->fall, k->last_front, k->last_rear};
+    for (int i = 0; i < 12; i++)
+        second_put_bits(bytes, held_at[i], held_width[i], fields[i]);
+    put_consist(&session->train, bytes + HELD_CONSIST);
+}
+
+/* ---- the session */
+
+unsigned expected_open(size_t room, part consist, uint8_t *session)
+{
+    second_session opened;
+    unsigned refusal = (unsigned)second_open(&opened, consist.bytes, consist.count);
+    if (refusal != 0)
+        return refusal;
+    if (room < BUONGILACH_SESSION_BYTES)
+        return 12;
+    expected_bytes(&opened, session);
+    return 0;
+}
+
+unsigned expected_sample(part session, part sample, part profile, part targets, size_t room, uint8_t *next, uint8_t *decision)
+{
+    second_session held;
+    if (!expected_held(session, &held))
+        return 1;
+    unsigned refusal = (unsigned)second_judge(&held, sample.bytes, sample.count, profile.bytes, profile.count, targets.bytes,
+                                              targets.count, decision, room);
+    if (refusal == 0)
+        expected_bytes(&held, next);
+    return refusal;
+}
+
+/* ---- the records */
+
+unsigned expected_judge_consist(part consist)
+{
+    second_consist train;
+    return (unsigned)second_read_consist(consist.bytes, consist.count, &train);
+}
+
+unsigned expected_write_consist(const uint32_t *fields, size_t room, uint8_t *record)
+{
+    /* past its field's width a number is out of its range, too: the widest below 32 bits */
+    static const uint32_t ends[9] = {1 << 9, 1 << 11, 1 << 15, 1 << 15, 1 << 24, 1 << 18, 1 << 10, 1 << 14, 1 << 12};
+    for (int i = 0; i < 9; i++)
+        if (fields[i] >= ends[i])
+            return 4;
+    second_consist train = {fields[0], fields[1], fields[2], fields[3], fields[4], fields[5], fields[6], fields[7], fields[8]};
+    put_consist(&train, record);
+    part written = {record, BUONGILACH_CONSIST_BYTES};
+    unsigned refusal = expected_judge_consist(written);
+    return refusal != 0 ? refusal : room < BUONGILACH_CONSIST_BYTES ? 12 : 0;
+}
+
+unsigned expected_judge_profile(part profile)
+{
+    static second_profile read;
+    return (unsigned)second_read_profile(profile.bytes, profile.count, &read);
+}
+
+unsigned expected_write_profile(part starts, part grades, part curvatures, size_t room, uint8_t *records)
+{
+    size_t count = starts.count;
+    if (grades.count != count || curvatures.count != count || count > BUONGILACH_PROFILE_RECORDS_MOST)
+        return 6;
+    for (size_t i = 0; i < count; i++) {
+        uint8_t *record = records + i * BUONGILACH_PROFILE_RECORD_BYTES;
+        int64_t start = ((const uint32_t *)starts.bytes)[i];
+        int64_t grade = ((const int16_t *)grades.bytes)[i];
+        int64_t curvature = ((const uint16_t *)curvatures.bytes)[i];
+        if (start >= BITS_24 || grade < -1024 || grade > 1023 || curvature >= 2048)
+            return 6;
+        second_put_bits(record, 0, 24, start);
+        second_put_bits(record, 24, 11, (grade + 2048) % 2048);
+        second_put_bits(record, 35, 11, curvature);
+        second_put_bits(record, 46, 2, 0);
+    }
+    part written = {records, count * BUONGILACH_PROFILE_RECORD_BYTES};
+    unsigned refusal = expected_judge_profile(written);
+    return refusal != 0 ? refusal : room < written.count ? 12 : 0;
+}
+
+unsigned expected_judge_targets(part targets)
+{
+    second_targets read;
+    return (unsigned)second_read_targets(targets.bytes, targets.count, &read);
+}
+
+unsigned expected_write_targets(part locations, part speeds, size_t room, uint8_t *records)
+{
+    size_t count = locations.count;
+    if (speeds.count != count || count > BUONGILACH_TARGETS_MOST)
+        return 7;
+    for (size_t i = 0; i < count; i++) {
+        uint8_t *record = records + i * BUONGILACH_TARGET_RECORD_BYTES;
+        int64_t location = ((const uint32_t *)locations.bytes)[i];
+        if (location >= BITS_24)
+            return 7;
+        second_put_bits(record, 0, 24, location);
+        second_put_bits(record, 24, 16, ((const uint16_t *)speeds.bytes)[i]);
+    }
+    part written = {records, count * BUONGILACH_TARGET_RECORD_BYTES};
+    unsigned refusal = expected_judge_targets(written);
+    return refusal != 0 ? refusal : room < written.count ? 12 : 0;
+}
+
+unsigned expected_judge_sample(part sample)
+{
+    if (sample.count != BUONGILACH_SAMPLE_BYTES)
+        return 2;
+    if (!second_sample_well_formed(sample.bytes))
+        return 3;
+    return second_readings_in_range(sample.bytes) ? 0 : 8;
+}
+
+unsigned expected_write_sample(const uint32_t *fields, size_t room, uint8_t *record)
+{
+    static const int widths[8] = {8, 24, 1, 7, 24, 32, 32, 32};
+    const int64_t values[8] = {0x53, fields[0], fields[4], 0, fields[1], fields[2], fields[3], fields[5]};
+    if (fields[4] == 0 && fields[5] != 0)
+        return 3;
+    if (fields[0] >= BITS_24 || fields[1] >= BITS_24)
+        return 4;
+    int at = 0;
+    for (int i = 0; i < 8; i++) {
+        second_put_bits(record, at, widths[i], values[i]);
+        at += widths[i];
+    }
+    if (!second_readings_in_range(record))
+        return 8;
+    return room < BUONGILACH_SAMPLE_BYTES ? 12 : 0;
+}
+
+unsigned expected_read_decision(part decision, size_t room, uint32_t *numbers)
+{
+    const uint8_t *bytes = decision.bytes;
+    if (decision.count != BUONGILACH_DECISION_BYTES)
+        return 2;
+    if (bytes[0] != 0x44)
+        return 3;
+    static const int at[5] = {8, 32, 35, 36, 40};
+    static const int widths[5] = {24, 3, 1, 4, 24};
+    for (int i = 0; i < 5; i++)
+        numbers[i] = (uint32_t)second_bits(bytes, at[i], widths[i]);
+    uint32_t stop = numbers[4];
+    if (numbers[1] > 5 || numbers[3] > MOST_CAUSE || numbers[2] != (numbers[3] != 0)
+        || (stop > BUONGILACH_LOCATION_MOST && stop != BUONGILACH_NO_STOP))
+        return 4;
+    return room < 5 ? 12 : 0;
+}

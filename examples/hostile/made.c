@@ -1,0 +1,155 @@
+/*
+ * made.c - see made.h.
+ */
+#include "made.h"
+
+#include "../../second/second.h"
+
+#include <string.h>
+
+enum { REACH = 32768, LAST_FOOT = 4000000 };
+
+static uint64_t state;
+
+void made_seed(uint64_t seed)
+{
+    state = seed;
+}
+
+/* splitmix64 */
+static uint64_t next(void)
+{
+    state += 0x9E3779B97F4A7C15u;
+    uint64_t z = state;
+    z = (z ^ (z >> 30)) * 0xBF58476D1CE4E5B9u;
+    z = (z ^ (z >> 27)) * 0x94D049BB133111EBu;
+    return z ^ (z >> 31);
+}
+
+uint32_t made_below(uint32_t end)
+{
+    return (uint32_t)((next() >> 32) * end >> 32);
+}
+
+int64_t made_between(int64_t least, int64_t most)
+{
+    return least + made_below((uint32_t)(most - least + 1));
+}
+
+bool made_once_in(uint32_t times)
+{
+    return made_below(times) == 0;
+}
+
+void made_noise(uint8_t *bytes, size_t count)
+{
+    for (size_t i = 0; i < count; i++)
+        bytes[i] = (uint8_t)made_below(256);
+}
+
+part made_part(size_t count)
+{
+    static uint8_t noise[LENT_MOST];
+    made_noise(noise, count);
+    return part_of(noise, count);
+}
+
+uint32_t made_about(uint32_t least, uint32_t most)
+{
+    switch (made_below(20)) {
+    case 0:
+        return least;
+    case 1:
+        return most;
+    case 2:
+        return most + 1;
+    case 3:
+        return least - (least > 0);
+    default:
+        return (uint32_t)made_between(least, most);
+    }
+}
+
+uint32_t made_reading(uint32_t hundredths)
+{
+    float value = (float)hundredths / 100;
+    uint32_t bits;
+    memcpy(&bits, &value, sizeof bits);
+    return bits;
+}
+
+uint32_t made_odd_reading(void)
+{
+    /* zeros, subnormals, 100 and 160 with their neighbours, infinities, NaNs */
+    static const uint32_t odd[] = {0, 0x80000000, 1, 0x80000001, 0x007FFFFF, 0x00800000, 0x42C7FFFF, 0x42C80000,
+                                   0x42C80001, 0x431FFFFF, 0x43200000, 0x43200001, 0x7F7FFFFF, 0x7F800000, 0xFF800000,
+                                   0x7F800001, 0x7FC00000, 0xFFC00000, 0xFFFFFFFF, 0xBF800000};
+    uint32_t place = made_below(sizeof odd / sizeof *odd + 1);
+    return place < sizeof odd / sizeof *odd ? odd[place] : made_below(UINT32_MAX);
+}
+
+void made_consist(uint8_t *record, uint32_t *length)
+{
+    int64_t cars = made_between(1, 250);
+    int64_t weight = made_between(10 * cars, 120 * cars);
+    *length = (uint32_t)made_between(50, made_once_in(4) ? 20000 : 3000);
+    second_put_bits(record, 0, 9, cars);
+    second_put_bits(record, 9, 11, made_between(2, 2000));
+    second_put_bits(record, 20, 15, weight);
+    second_put_bits(record, 35, 15, *length);
+    second_put_bits(record, 50, 24, made_between(100 * weight, 300 * weight));
+    second_put_bits(record, 74, 18, made_once_in(4) ? made_between(1000, 240000) : made_between(1000, 30000));
+    second_put_bits(record, 92, 10, made_between(1, 1000));
+    second_put_bits(record, 102, 14, made_between(7000, 11000));
+    second_put_bits(record, 116, 12, made_between(0, 4000));
+}
+
+size_t made_profile(uint8_t *records, uint32_t head, uint32_t length)
+{
+    size_t count = made_once_in(50) ? 257 : (size_t)made_between(2, 6);
+    int64_t first = made_once_in(4) ? head - length : made_between(0, head - length);
+    int64_t last = made_once_in(4) ? head + REACH : made_between(head + REACH, LAST_FOOT);
+    int64_t steep = made_once_in(4) ? 500 : 60;
+    for (size_t i = 0; i < count; i++) {
+        uint8_t *record = records + 6 * i;
+        bool end = i + 1 == count;
+        int64_t start = first + (last - first) * (int64_t)i / (int64_t)(count - 1);
+        int64_t grade = end ? 0 : made_between(-steep, steep);
+        second_put_bits(record, 0, 24, start);
+        second_put_bits(record, 24, 11, (grade + 2048) % 2048);
+        second_put_bits(record, 35, 11, end ? 0 : made_between(0, steep));
+        second_put_bits(record, 46, 2, 0);
+    }
+    return 6 * count;
+}
+
+size_t made_targets(uint8_t *records, uint32_t head)
+{
+    size_t count = made_below(4) > 0 ? made_below(3) : made_below(9);
+    int64_t location = made_between(head / 2, head);
+    for (size_t i = 0; i < count; i++) {
+        location += made_between(1, made_once_in(2) ? 1500 : 12000);
+        second_put_bits(records + 5 * i, 0, 24, location);
+        second_put_bits(records + 5 * i, 24, 16, made_once_in(2) ? 0 : made_between(0, 10000));
+    }
+    return 5 * count;
+}
+
+void made_sample(uint8_t *record, uint32_t time, uint32_t head, uint32_t speed, uint32_t front, bool present, uint32_t rear)
+{
+    static const int widths[8] = {8, 24, 1, 7, 24, 32, 32, 32};
+    const int64_t values[8] = {0x53, time, present, 0, head, speed, front, present ? rear : 0};
+    int at = 0;
+    for (int i = 0; i < 8; i++) {
+        second_put_bits(record, at, widths[i], values[i]);
+        at += widths[i];
+    }
+}
+
+void made_damage(uint8_t *bytes, size_t count)
+{
+    for (uint32_t bits = 1 + made_below(3); count > 0 && bits > 0; bits--) {
+        uint32_t place = made_below((uint32_t)count);
+        bytes[place] ^= (uint8_t)(1u << made_below(8));
+    }
+}

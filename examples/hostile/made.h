@@ -1,0 +1,43 @@
+/*
+ * made.h - random records, mostly right, from a seed.
+ */
+#ifndef MADE_H
+#define MADE_H
+
+#include "lent.h"
+
+enum { LONGEST = 64 }; /* bytes that a short buffer is made long to */
+
+/* The numbers that follow depend on the seed alone. */
+void made_seed(uint64_t seed);
+uint32_t made_below(uint32_t end);
+int64_t made_between(int64_t least, int64_t most);
+bool made_once_in(uint32_t times);
+void made_noise(uint8_t *bytes, size_t count);
+
+/* Noise to write over; it stands until the next. */
+part made_part(size_t count);
+
+/* A number of the range, often its end, sometimes just past it. */
+uint32_t made_about(uint32_t least, uint32_t most);
+
+/* The bits of a binary32 reading: of so many hundredths, or any that are refused or just not. */
+uint32_t made_reading(uint32_t hundredths);
+uint32_t made_odd_reading(void);
+
+/* A consist in its ranges, a train that brakes well; its length in *length. */
+void made_consist(uint8_t *record, uint32_t *length);
+
+/* A profile that covers a train of that length with its head there; the answer is its bytes. */
+size_t made_profile(uint8_t *records, uint32_t head, uint32_t length);
+
+/* Targets before and behind the head. */
+size_t made_targets(uint8_t *records, uint32_t head);
+
+/* A sample; `rear` only where it is present. */
+void made_sample(uint8_t *record, uint32_t time, uint32_t head, uint32_t speed, uint32_t front, bool present, uint32_t rear);
+
+/* Some bits turned over. */
+void made_damage(uint8_t *bytes, size_t count);
+
+#endif

@@ -1,0 +1,71 @@
+/*
+ * trip.c - see trip.h.
+ */
+#include "trip.h"
+
+#include "made.h"
+
+static void make_sample(trip *t)
+{
+    bool present = !made_once_in(5);
+    uint32_t rear = made_once_in(3) ? made_below(16001) : t->front;
+    made_sample(t->sample, t->time, t->head, made_reading(t->speed), made_reading(t->front), present, made_reading(rear));
+}
+
+void trip_begin(trip *t, uint32_t fastest)
+{
+    uint8_t before[BUONGILACH_SESSION_BYTES];
+    made_noise(before, sizeof before);
+    made_consist(t->consist, &t->length);
+    t->head = t->length + made_below(100000);
+    t->profile_bytes = made_profile(t->profile, t->head + 1000, t->length + 1000);
+    t->targets_bytes = made_targets(t->targets, t->head);
+    t->time = made_once_in(10) ? 16777210 : made_below(1000000);
+    t->fastest = fastest;
+    t->speed = made_below(fastest + 1);
+    t->front = (uint32_t)made_between(7000, 11000);
+    make_sample(t);
+    try_open(part_of(before, sizeof before), part_of(t->consist, sizeof t->consist), t->session);
+}
+
+/* A pipe pressure that stays, sinks, falls fast or rises. */
+static uint32_t next_front(uint32_t front, uint32_t elapsed)
+{
+    static const int changes[] = {0, 0, -60, -500, -1499, -1500, -3000, 90, 101, 400};
+    int64_t next = (int64_t)front + changes[made_below(sizeof changes / sizeof *changes)] * (int64_t)elapsed;
+    return next < 0 ? 0 : next > 16000 ? 16000 : (uint32_t)next;
+}
+
+void trip_go(trip *t)
+{
+    uint8_t decision[BUONGILACH_DECISION_BYTES] = {0};
+    unsigned refusal =
+        try_sample(part_of(t->session, sizeof t->session), part_of(t->sample, sizeof t->sample),
+                   part_of(t->profile, t->profile_bytes), part_of(t->targets, t->targets_bytes),
+                   part_of(decision, sizeof decision), t->session);
+    /* out of time, or off the profile */
+    if (refusal != 0) {
+        trip_begin(t, t->fastest);
+        return;
+    }
+    uint32_t elapsed = (uint32_t)made_between(1, 5);
+    t->time = (t->time + elapsed) & 0xFFFFFF;
+    t->front = next_front(t->front, elapsed);
+    t->speed = made_below(t->fastest + 1);
+    t->head += made_below(150);
+    make_sample(t);
+}
+
+bool trip_to_state(trip *t, unsigned state, uint32_t fastest)
+{
+    second_session held;
+    for (int samples = 0; samples < 2000; samples++) {
+        /* some states come only early in a trip */
+        if (samples % 40 == 0)
+            trip_begin(t, fastest);
+        trip_go(t);
+        if (expected_held(part_of(t->session, sizeof t->session), &held) && held.begun && held.brakes.state == state)
+            return true;
+    }
+    return false;
+}

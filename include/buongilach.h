@@ -1,0 +1,171 @@
+/*
+ * buongilach.h - the brake predictor, for C11 and C++. Link libmount.a (x86-64 Linux; docs/MOUNTING.md).
+ *
+ * A session is opened with a consist and then given a sample at a time; each accepted sample is answered by a decision, which
+ * says whether the penalty brake must go on. "01" is the document that gives the rules.
+ *
+ * Units: speed in hundredths of a mph, pressure in hundredths of a psi, location and length in feet, grade in hundredths of a
+ * percent (negative downhill), curvature in hundredths of a degree, weight in tons of 2,000 lb. Only a sample carries its
+ * readings otherwise: mph and psi, each the 32 bits of an IEEE 754 binary32.
+ *
+ * What a call answers: 0, or the number of one refusal. Where several apply, it is the lowest. A refused call changes no byte of
+ * what it was lent; an accepted one writes the bytes that are named below and none past them.
+ *
+ * What the caller owes, and nothing checks:
+ *  - each pointer leads to as many elements as the length after it says, for reading, and for writing where it is not const;
+ *    numbers (uint16_t, int16_t, uint32_t) stand at addresses that are aligned for them;
+ *  - what a call writes overlaps nothing else that the same call is lent;
+ *  - a length above 0 has no null pointer. With length 0 the pointer is not followed, and null will do;
+ *  - while a call runs, nothing else writes what it was lent: no session is used by two threads at once. Calls on different
+ *    sessions may run at the same time, as nothing is kept outside of what is lent.
+ *  - the processor's MXCSR register is at its default: floating-point exceptions masked, denormals not taken as zero. (A link
+ *    by GCC with -ffast-math or -Ofast changes that at the program's start.)
+ * Any bytes and any lengths are allowed: no content makes a call undefined.
+ */
+#ifndef BUONGILACH_H
+#define BUONGILACH_H
+
+#include <stdbool.h>
+#include <stddef.h>
+#include <stdint.h>
+
+#ifdef __cplusplus
+extern "C" {
+#endif
+
+enum {
+    BUONGILACH_SESSION_BYTES = 36,
+    BUONGILACH_CONSIST_BYTES = 16,
+    BUONGILACH_SAMPLE_BYTES = 20,
+    BUONGILACH_DECISION_BYTES = 8,
+    BUONGILACH_DECISION_NUMBERS = 5,
+    BUONGILACH_PROFILE_RECORD_BYTES = 6,
+    BUONGILACH_PROFILE_RECORDS_LEAST = 2,
+    BUONGILACH_PROFILE_RECORDS_MOST = 257,
+    BUONGILACH_PROFILE_BYTES_MOST = 1542,
+    BUONGILACH_TARGET_RECORD_BYTES = 5,
+    BUONGILACH_TARGETS_MOST = 8,
+    BUONGILACH_TARGETS_BYTES_MOST = 40,
+    BUONGILACH_LOCATION_MOST = 4000000,
+    BUONGILACH_NO_STOP = 16777215 /* a decision's stop where the train does not stop within 32,768 ft */
+};
+
+/* What a call answers. docs/MOUNTING.md says what each asks of the caller. */
+enum buongilach_refusal {
+    BUONGILACH_ACCEPTED = 0,
+    BUONGILACH_NO_SESSION = 1,     /* a sample, and the session's bytes are no open session's */
+    BUONGILACH_WRONG_LENGTH = 2,   /* a consist is not 16 bytes, a sample not 20, a decision that is read not 8 */
+    BUONGILACH_WRONG_MARK = 3,     /* a wrong mark; a sample's spare bit set, or its rear lost with rear bits not zero */
+    BUONGILACH_OUT_OF_RANGE = 4,   /* a field of a consist or a decision; a sample's time or head over 24 bits (writer) */
+    BUONGILACH_TOO_LIGHT = 5,      /* a consist of less than 10 tons a car */
+    BUONGILACH_BROKEN_PROFILE = 6, /* the profile breaks a rule, its byte count included */
+    BUONGILACH_BROKEN_TARGETS = 7, /* the targets break a rule, their byte count included */
+    BUONGILACH_BAD_READING = 8,    /* NaN, infinite, below zero, a speed above 100 mph or a pressure above 160 psi */
+    BUONGILACH_WRONG_TIME = 9,     /* not 1 to 5 seconds after the last accepted sample */
+    BUONGILACH_NOT_COVERED = 10,   /* head less than the train's length, or a profile too short before or behind it */
+    BUONGILACH_TOO_FAST = 11,      /* the predicted run gets beyond the speeds that are computed */
+    BUONGILACH_NO_ROOM = 12        /* fewer bytes (or numbers) to write to than what is written */
+};
+
+/* A decision's brake state. */
+enum buongilach_state {
+    BUONGILACH_CHARGED = 0,
+    BUONGILACH_APPLYING_SERVICE = 1,
+    BUONGILACH_HOLDING_SERVICE = 2,
+    BUONGILACH_APPLYING_EMERGENCY = 3,
+    BUONGILACH_HOLDING_EMERGENCY = 4,
+    BUONGILACH_CHARGING = 5
+};
+
+/* The places of a decision's numbers, as buongilach_read_decision gives them. */
+enum buongilach_number {
+    BUONGILACH_TIME = 0,    /* the sample's time, in seconds */
+    BUONGILACH_STATE = 1,   /* enum buongilach_state */
+    BUONGILACH_PENALTY = 2, /* 1: the penalty brake must go on; it stays 1 until the next opening */
+    BUONGILACH_CAUSE = 3,   /* 1 to 8: the target's place in the list when the penalty was called; 0 without a penalty */
+    BUONGILACH_STOP = 4     /* where the head would stop, or BUONGILACH_NO_STOP */
+};
+
+/* ---- the session */
+
+/*
+ * Opens a session: writes its 36 bytes to the front of `session`, whatever stood there.
+ * Refuses 2, 4, 5 (the consist), 12 (`session` under 36 bytes). Refused, an earlier session stays as it was.
+ */
+uint8_t buongilach_open(uint8_t *session, size_t session_bytes, const uint8_t *consist, size_t consist_bytes);
+
+/*
+ * Judges a sample. `session` is exactly the 36 bytes that an opening or the last accepted sample left; any other bytes, and any
+ * other length, are refused 1 unless they happen to be another open session's. Profile and targets are judged at each call, and
+ * the targets may change from call to call. Accepted: the session's 36 bytes are the next session's, and the first 8 of
+ * `decision` are the decision.
+ * Refuses 1, 2, 3, 6, 7, 8, 9, 10, 11, 12 (`decision` under 8 bytes).
+ */
+uint8_t buongilach_sample(uint8_t *session, size_t session_bytes, const uint8_t *sample, size_t sample_bytes,
+                          const uint8_t *profile, size_t profile_bytes, const uint8_t *targets, size_t targets_bytes,
+                          uint8_t *decision, size_t decision_bytes);
+
+/* Whether these bytes, all of them, are an open session's: whether `buongilach_sample` would not refuse them 1. */
+bool buongilach_is_open(const uint8_t *session, size_t session_bytes);
+
+/* ---- the records: each is written from numbers, and judged as a sample call or an opening would judge it */
+
+/*
+ * Writes a consist to the first 16 bytes of `out`: cars (1 to 250), axles (2 to 2,000), weight (10 to 30,000 tons), length (50 to
+ * 20,000 ft), rated brake force (0 to 10,000,000 lb), application time (1,000 to 240,000 ms), recharge per second (1 to 1,000
+ * hundredths of a psi), set pressure (7,000 to 11,000 hundredths of a psi), target offset (0 to 4,000 ft).
+ * Refuses 4, 5, 12.
+ */
+uint8_t buongilach_write_consist(uint16_t cars, uint16_t axles, uint16_t weight, uint16_t length, uint32_t rated,
+                                 uint32_t application, uint16_t recharge, uint16_t set, uint16_t offset, uint8_t *out,
+                                 size_t out_bytes);
+
+/* 0, or 2, 4, 5. */
+uint8_t buongilach_judge_consist(const uint8_t *consist, size_t consist_bytes);
+
+/*
+ * Writes a profile of 2 to 257 records, 6 bytes each, to the front of `out`: record i has starts[i] (at most 4,000,000, strictly
+ * rising), grades[i] (-500 to 500) and curvatures[i] (0 to 2,000), and holds up to the next start. The last only ends the
+ * profile: its grade and curvature are 0. The three lengths count elements and must be equal.
+ * Refuses 6 (lengths that differ, too), 12.
+ */
+uint8_t buongilach_write_profile(const uint32_t *starts, size_t starts_count, const int16_t *grades, size_t grades_count,
+                                 const uint16_t *curvatures, size_t curvatures_count, uint8_t *out, size_t out_bytes);
+
+/* 0, or 6. */
+uint8_t buongilach_judge_profile(const uint8_t *profile, size_t profile_bytes);
+
+/*
+ * Writes 0 to 8 targets, 5 bytes each, to the front of `out`: locations[i] (at most 4,000,000, strictly rising) and speeds[i]
+ * (0 to 10,000). The two lengths count elements and must be equal.
+ * Refuses 7 (lengths that differ, too), 12.
+ */
+uint8_t buongilach_write_targets(const uint32_t *locations, size_t locations_count, const uint16_t *speeds, size_t speeds_count,
+                                 uint8_t *out, size_t out_bytes);
+
+/* 0, or 7. */
+uint8_t buongilach_judge_targets(const uint8_t *targets, size_t targets_bytes);
+
+/*
+ * Writes a sample to the first 20 bytes of `out`: time in seconds and head location (both below 2 to the 24th), then the bits of
+ * a binary32 each: speed in mph (0 to 100), front and rear brake pipe pressure in psi (0 to 160). A rear that is lost has
+ * `present` false and `rear` 0.
+ * Refuses 3 (lost, and `rear` not 0), 4, 8, 12.
+ */
+uint8_t buongilach_write_sample(uint32_t time, uint32_t head, uint32_t speed, uint32_t front, bool present, uint32_t rear,
+                                uint8_t *out, size_t out_bytes);
+
+/* 0, or 2, 3, 8. */
+uint8_t buongilach_judge_sample(const uint8_t *sample, size_t sample_bytes);
+
+/*
+ * Reads a decision into the first five of `numbers`, in the order of enum buongilach_number. `numbers_count` counts elements.
+ * Refuses 2, 3, 4, 12 (room for fewer than five).
+ */
+uint8_t buongilach_read_decision(const uint8_t *decision, size_t decision_bytes, uint32_t *numbers, size_t numbers_count);
+
+#ifdef __cplusplus
+}
+#endif
+
+#endif
