@@ -5,7 +5,7 @@ SHELL := bash
 
 # The gate, its words kept for `make dist`.
 check:
-	@{ echo "commit $$(git rev-parse HEAD)"; .ci/run; } 2>&1 | tee gate.log
+	@{ echo "commit $$(git rev-parse HEAD)$$(git status --porcelain | sed -n "1s/.*/ changed/p")"; .ci/run; } 2>&1 | tee gate.log
 
 # The tests of the second program and the tools, without a proof.
 test:

@@ -206,8 +206,8 @@ int main(int count, char **words)
         die("bench FEED time|mount|plain NUMBER");
     parts feed = read_feed(words[1]);
     int number = atoi(words[3]);
-    if (number < 0 || number > MOST_ROUNDS)
-        die("the number is from 0 to 1000");
+    if (number < 1 || number > MOST_ROUNDS)
+        die("the number is from 1 to 1000");
     if (strcmp(words[2], "time") == 0)
         print_times(&feed, number);
     else if (strcmp(words[2], "mount") == 0)

@@ -2,7 +2,7 @@
  * mounted.c - the session program over the C library, as a customer would write it: a recorded feed on standard input, a line for
  * each sample on standard output. It prints what `enforce` prints.
  *
- *     tools/cc-mounted mounted examples/mounted.c
+ *     tools/cc-mounted target/mounted examples/mounted.c
  */
 #include "buongilach.h"
 

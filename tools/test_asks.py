@@ -65,7 +65,7 @@ class Asks(unittest.TestCase):
         self.assertEqual(found["outer"][1], {"in::ner", "memset"})
 
     def test_no_bound(self):
-        for line in ("call   *%rax", "sub    %rax,%rsp", "mov    %rax,%rsp", "sub    $0x1000,%rsp"):
+        for line in ("call   *%rax", "notrack call *%rax", "call   0 <outer>", "sub    %rax,%rsp", "mov    %rax,%rsp", "sub    $0x1000,%rsp"):
             with self.subTest(line=line):
                 with self.assertRaises(asks.NoBound):
                     asks.functions(TEXT.replace("sub    $0x100,%rsp", line))

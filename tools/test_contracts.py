@@ -47,6 +47,10 @@ class Contracts(unittest.TestCase):
         self.change("docs/CONTRACTS.md", "`consist::is_sound`", "`consist::is_light`")
         self.assert_fault("consist::is_sound is not in docs/CONTRACTS.md")
 
+    def test_stale_row(self):
+        self.change("docs/CONTRACTS.md", "| `consist::is_sound` |", "| `consist::is_light` |")
+        self.assert_fault("consist::is_light has a row in docs/CONTRACTS.md and is no public function")
+
     def test_no_theorem(self):
         self.change("crates/session/proofs/Unique.antt", "pub open-one ", "pub open-two ")
         self.assert_fault("session::open has no theorem open-one")

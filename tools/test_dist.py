@@ -31,8 +31,9 @@ class Dist(unittest.TestCase):
         self.write("gate.log", GATE)
         self.write("README.md", "words\n")
         self.write("docs/MOUNTING.md", "words\n")
-        self.write("docs/landings/one.md", "not for the customer\n")
+        self.write("docs/drafts/one.md", "not for the customer\n")
         self.write("include/buongilach.h", "header\n")
+        self.write("examples/case.c", "program\n")
         self.write("examples/mounted.c", "program\n")
         self.write("target/staticlib/libmount.a", "archive\n")
         self.write("crates/bits/must-fail/a.edit", "")
@@ -77,7 +78,7 @@ class Dist(unittest.TestCase):
         place = self.release()
         self.assertEqual(os.path.basename(place), "buongilach-1.2.3")
         self.assertEqual(dist.files_of(place), [
-            "PROVED.json", "README.md", "VERSION", "docs/MOUNTING.md", "examples/mounted.c",
+            "PROVED.json", "README.md", "VERSION", "docs/MOUNTING.md", "examples/case.c", "examples/mounted.c",
             "include/buongilach.h", "lib/libmount.a"])
         dist.verify(self.root, place)
         done = subprocess.run(["sha256sum", "--quiet", "-c", dist.SUMS], cwd=place, check=False)
@@ -116,6 +117,10 @@ class Dist(unittest.TestCase):
         self.tool("git", "[ \"$1\" = rev-parse ] && echo %s || echo ' M src'\n" % COMMIT)
         self.assert_unfit("uncommitted changes", self.release)
         self.assertTrue(self.listed(self.release(draft=True))["draft"])
+
+    def test_a_gate_on_changed_files_is_none(self):
+        self.write("gate.log", GATE.replace(COMMIT, COMMIT + " changed"))
+        self.assert_unfit("no gate.log of this commit", self.release)
 
     def test_damage_is_seen(self):
         place = self.release()

@@ -1,26 +1,18 @@
 """Tests of the feed tool: python3 -m unittest discover -s tools"""
 
 import hashlib
-import importlib.machinery
-import importlib.util
 import os
 import random
 import subprocess
 import sys
 import unittest
 
+sys.path.insert(0, os.path.dirname(os.path.abspath(__file__)))
+from loading import load  # noqa: E402
+
 TOOLS = os.path.dirname(os.path.abspath(__file__))
 EXAMPLES = os.path.join(os.path.dirname(TOOLS), "examples")
 FEED = os.path.join(TOOLS, "feed")
-
-
-def load(name):
-    """A tool without .py in its name, as a module."""
-    sys.dont_write_bytecode = True
-    loader = importlib.machinery.SourceFileLoader(name, os.path.join(TOOLS, name))
-    module = importlib.util.module_from_spec(importlib.util.spec_from_loader(name, loader))
-    loader.exec_module(module)
-    return module
 
 
 feed = load("feed")

@@ -2,8 +2,8 @@
  * hostile.c - runs the C library on what a careless or hostile host may lend it: buffers of every size, sessions with each byte
  * changed to each value, random bytes everywhere. Each answer and every lent byte is held to the second program's rules.
  *
- *     tools/cc-mounted hostile -DSECOND_NO_MAIN examples/hostile/[a-z]*.c second/second.c
- *     tools/launch --static hostile [SEED [TIMES]]
+ *     tools/cc-mounted target/hostile -DSECOND_NO_MAIN examples/hostile/[a-z]*.c second/second.c
+ *     tools/launch --static target/hostile [SEED [TIMES]]
  *
  * runs it all TIMES times (1), from the seeds SEED (1), SEED + 1, .. It prints one line of counts. Exit status 0: no fault, and
  * everything that can occur did. It ends early where there are faults.

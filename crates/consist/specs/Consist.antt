@@ -50,10 +50,10 @@ bytesOf c = bytesFrom 16 widths (fieldsOf c)
 unfoldable pub wrongLength : List ℕ → Bool
 wrongLength s = not (eqb (length s) 16)
 
--- 4: a consist field out of its range
 unfoldable pub inRange : Consist → Bool
 inRange c = inside ranges (fieldsOf c)
 
+-- 4: a consist field out of its range
 abbrev pub outOfRange : Consist → Bool
 outOfRange c = not (inRange c)
 

@@ -17,7 +17,7 @@ use Rattle.decision.specs.declared.Answer.the-variants.{Accepted, Refuse
 
 -- "mark 8 (0x44)"
 abbrev pub mark : ℕ
-mark = 68
+mark = 0x44
 
 -- the greatest location
 abbrev pub farthest : ℕ

@@ -16,10 +16,11 @@ use Rattle.decision.specs.RoundTrip.{WrittenReadsBack}
 use Rattle.decision.proofs.Answers.{write-accepted}
 use Rattle.decision.proofs.RoundTrip.{written-reads-back}
 use Rattle.session.specs.declared.Session.{Session}
-use Rattle.session.specs.Sample.{sampleIn, prediction, rulesBefore, decisionOf, sessionAfter, sampleCall}
+use Rattle.session.specs.Sample.{sampleIn, prediction, decisionOf, sessionAfter, sampleCall}
 use Rattle.session.proofs.Admitted.{in-range}
 use Rattle.session.proofs.Calls.{call-accepted}
 use Rattle.demands.specs.Run.{Reply, Decides}
+use Rattle.session.specs.Steps.{rulesBefore}
 
 module _ (x : Session) (s p t out : List ℕ) (h : sampleCall x s p t out .0 .verdict ≡ Accepted) where
   pub before : lowest (rulesBefore x s p t) ≡ Accepted

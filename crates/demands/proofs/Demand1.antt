@@ -53,6 +53,10 @@ use Rattle.session.proofs.none.Met as session-none
 use Rattle.session.proofs.is_open.Met as session-is-open
 use Rattle.session.proofs.open.Met as session-open
 use Rattle.session.proofs.sample.Met as session-sample
+use Rattle.held.specs.Exactly as held-specs
+use Rattle.held.proofs.Exactly as held
+use Rattle.held.proofs.read.Met as held-read
+use Rattle.held.proofs.write.Met as held-write
 use Rattle.demands.specs.Demand1.{among, oneToTwelve, Table, PublicCall, Refuses, RefusesUnchanged, Demand-1}
 
 -- ---- the table
@@ -80,7 +84,7 @@ later : (a b : Bool) → b ≡ true → a || b ≡ true
 later true b h = refl
 later false b h = h
 
-abbrev linesOf : List Rule → List ℕ
+abbrev pub linesOf : List Rule → List ℕ
 linesOf rules = map (λ (rule : Rule). numberOf (rule .1)) rules
 
 -- a refusal that applies has its number among them
@@ -95,7 +99,7 @@ listed (rule ∷ rules) q a =
 -- ---- an answer that is what its layer defines
 
 module _ {numbers : List ℕ} {rules : List Rule} (lines : linesOf rules ≡ numbers) where
-  refuses : {A : Type 0} {refused : Refusal → A} {made : A} → ((q : Refusal) → (made ≡ refused q) ↔ Lowest rules q) → {y : A} → y ≡ made → Refuses numbers rules refused y
+  pub refuses : {A : Type 0} {refused : Refusal → A} {made : A} → ((q : Refusal) → (made ≡ refused q) ↔ Lowest rules q) → {y : A} → y ≡ made → Refuses numbers rules refused y
   refuses exact e = record {
     lines = lines;
     exactly = λ q. (λ h. exact q .0 (sym e ∙ h), λ h. e ∙ exact q .1 h);
@@ -103,7 +107,7 @@ module _ {numbers : List ℕ} {rules : List Rule} (lines : linesOf rules ≡ num
   }
 
   -- of which a part is the answer and a part what was given and lent, after the call
-  leaves : {Y A S : Type 0} (said : Y → A) (left : Y → S) {refused : Refusal → A} {before : S} {made : Y}
+  pub leaves : {Y A S : Type 0} (said : Y → A) (left : Y → S) {refused : Refusal → A} {before : S} {made : Y}
       → ((q : Refusal) → (said made ≡ refused q) ↔ Lowest rules q) → ((q : Refusal) → said made ≡ refused q → left made ≡ before)
       → {y : Y} → y ≡ made → RefusesUnchanged numbers rules refused (said y) before (left y)
   leaves said left exact kept e = record {
@@ -130,13 +134,13 @@ module _ {numbers : List ℕ} where
 -- ---- the calls
 
 -- a contract without a `requires` asks `Unit`
-call : {L : Type 0} {Given Answer Exit : L → Type 0} {Statement : Type 1 → Type 2} {Post Says : (l : L) → Given l → Answer l → Exit l → Type 0}
+pub call : {L : Type 0} {Given Answer Exit : L → Type 0} {Statement : Type 1 → Type 2} {Post Says : (l : L) → Given l → Answer l → Exit l → Type 0}
     → ((M : Type 1) → Statement M) → ((l : L) (a : Given l) (r : Answer l) (x : Exit l) → Post l a r x → Says l a r x)
     → PublicCall Statement (λ l a. Unit {0}) Post Says
 call met says = record { met = met; asks-nothing = λ l a. tt; says = says }
 
 pub demand-1 : Demand-1
-unfolding consist-specs.ReadExactly consist-specs.WriteExactly profile-specs.JudgeExactly profile-specs.WriteExactly targets-specs.JudgeExactly targets-specs.WriteExactly sample-specs.LayoutExactly sample-specs.JudgeExactly sample-specs.ReadExactly sample-specs.WriteExactly decision-specs.ReadExactly decision-specs.WriteExactly session-specs.OpenExactly session-specs.SampleExactly
+unfolding consist-specs.ReadExactly consist-specs.WriteExactly profile-specs.JudgeExactly profile-specs.WriteExactly targets-specs.JudgeExactly targets-specs.WriteExactly sample-specs.LayoutExactly sample-specs.JudgeExactly sample-specs.ReadExactly sample-specs.WriteExactly decision-specs.ReadExactly decision-specs.WriteExactly session-specs.OpenExactly session-specs.SampleExactly held-specs.ReadExactly held-specs.WriteExactly
 demand-1 = record {
   table = table;
   refusal-number = call (λ M. refusal-number.met) (λ l a r x p. p);
@@ -160,4 +164,6 @@ demand-1 = record {
   session-is-open = call (λ M. session-is-open.met) (λ l a r x p. p);
   session-open = call (λ M. session-open.met) (λ l a r x p. opens refl (session.open-exactly _ _) p);
   session-sample = call (λ M. session-sample.met) (λ l a r x p. samples refl (session.sample-exactly _ _ _ _ _) p);
+  held-read = call (λ M. held-read.met) (λ l a r x p. refuses refl (held.read-exactly _) p);
+  held-write = call (λ M. held-write.met) (λ l a r x p. writes refl (held.write-exactly _ _) p);
 }

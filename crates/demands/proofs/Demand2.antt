@@ -34,7 +34,7 @@ use Rattle.demands.proofs.Decided.{decided}
 -- ---- one call
 
 -- a session that stands is open
-abbrev Open : Standing → Type 0
+abbrev pub Open : Standing → Type 0
 Open nothing = Unit {0}
 Open (since c h) = isOpen (held (since c h)) ≡ true
 
@@ -72,7 +72,7 @@ module _ (c : Consist) (h : List Lent) (l : Lent) where
   answer-is Accepted = rw cause-is
   answer-is (Refused r) = refl
 
-reply-is : (st : Standing) → Open st → (k : Call) → replyOf ours (held st) k ≡ replyAt st k
+pub reply-is : (st : Standing) → Open st → (k : Call) → replyOf ours (held st) k ≡ replyAt st k
 unfolding openOf readConsist isOpen
 reply-is st o (opening s) = ap {B = Reply} (λ (a : Answer). (a, [])) (opened-is st s (lowest (readRules s)))
 reply-is nothing o (sampling l) = call-before noneOpen (l .sample) (l .profile) (l .targets) (l .out) NoSession (given _ _ _ tt refl)
@@ -87,7 +87,7 @@ open-after a Accepted old c h o e f = sym (ap (λ (b : Answer). isOpen (b .sessi
 open-after a (Refused r) old c h o e f = o
 
 -- what stands after a call is open
-next-open : (st : Standing) → Open st → (k : Call) → Open (next st k)
+pub next-open : (st : Standing) → Open st → (k : Call) → Open (next st k)
 unfolding OpensOpen StaysOpen
 next-open st o (opening s) =
     open-after (openOf (held st) s) (lowest (readRules s)) st (consistIn s) [] o (ap (λ (r : Reply). r .0) (reply-is st o (opening s)))

@@ -1,14 +1,20 @@
 -- What is demanded, proved from what the layers prove.
 pub mod Demand1
+pub mod Mounted1
 pub mod Program
 pub mod Same
 pub mod FirstCall
 pub mod Decided
 pub mod Demand2
+pub mod Mounted2
 pub mod Locations
 pub mod Penalty
+pub mod SessionRead
+pub mod MountedPenalty
 pub mod RoundTrips
+pub mod MountedRecords
 pub mod Demand3
+pub mod Mounted3
 pub mod Figures
 pub mod Unique
 pub mod Case

@@ -1,23 +1,23 @@
 -- What is decided and judged is the location of the paper's own walk. Assumes nothing.
-use mathlib.Core.Path.{_≡_, refl, sym, ap, ap₂, _∙_}
+use mathlib.Core.Path.{_≡_, refl, sym, ap, ap₂, fun-ext, _∙_}
 use mathlib.Core.Bool.{Bool, cond}
-use mathlib.Core.List.{List, _∷_}
+use mathlib.Core.List.{List, _∷_, map}
 use Prim.Native.Nat.{ℕ, zero, suc, _+_, _<_, min}
 use native.Mathlib.Omega.{arith}
 use Rattle.bits.proofs.UpTo.{getD-upTo}
 use Rattle.consist.specs.declared.Consist.{Consist}
-use Rattle.targets.specs.Targets.{count, targetAt}
+use Rattle.targets.specs.Targets.{count, targetAt, speedsIn, locationsIn}
 use Rattle.track.specs.Track.{layOf}
 use Rattle.walk.specs.Curve.{forceAt, penaltyCurve}
 use Rattle.walk.specs.Step.{groundOf}
-use Rattle.walk.specs.Walk.{Place, placeFor, locationOf, predictOf}
+use Rattle.walk.specs.Walk.{Place, placeFor, locationOf, isFast, predictOf}
 use Rattle.walk.specs.Literal.{Literally}
 use Rattle.walk.proofs.Literal.{literally}
 use Rattle.judge.specs.Judge.{isCalled, calls, firstFrom, causeOf}
-use Rattle.session.specs.Sample.{sampleIn, speedsIn, locationsIn, predictionOf}
+use Rattle.session.specs.Sample.{sampleIn, predictionOf}
 use Rattle.session.specs.Laws.{Lent}
 use Rattle.demands.specs.History.{brakes, predictionAt, callAt}
-use Rattle.demands.specs.Demand2.{locationFor, callsFor, Locations}
+use Rattle.demands.specs.Demand2.{placeAt, locationFor, callsFor, Locations}
 
 -- tests that agree have the same first
 first-same : (f g : ℕ → Bool) (k n : ℕ) → ((i : ℕ) → i < k + n → f i ≡ g i) → firstFrom f k n ≡ firstFrom g k n
@@ -36,12 +36,15 @@ module _ (c : Consist) (h : List Lent) (l : Lent) where
       let m = sampleIn (l .sample) in
       placeFor c (forceAt (c .rated) (penaltyCurve c (k .a) (k .b))) (groundOf (layOf (l .profile)) (c .length)) (m .head) (m .speed) u
 
-  location-is : (u : ℕ) → locationOf (place u) ≡ locationFor c h l u
+  place-is : (u : ℕ) → place u ≡ placeAt c h l u
   unfolding Literally
-  location-is u = sym (ap locationOf (literally c _ _ _ _ u))
+  place-is u = sym (literally c _ _ _ _ u)
+
+  location-is : (u : ℕ) → locationOf (place u) ≡ locationFor c h l u
+  location-is u = ap locationOf (place-is u)
 
   call-is : (i : ℕ) → i < 8 →
-      calls (c .offset) (sampleIn (l .sample) .head) (sampleIn (l .sample) .speed) (locationsIn (l .targets)) (speedsIn (l .targets))
+      calls (c .offset) (sampleIn (l .sample) .head) (sampleIn (l .sample) .speed) (locationsIn (l .targets) 8) (speedsIn (l .targets) 8)
       (predictionAt c h l .places) i
       ≡ callsFor c h l i
   unfolding predictionAt predictionOf predictOf
@@ -55,5 +58,7 @@ pub locations : Locations
 unfolding Locations predictionAt predictionOf predictOf callAt causeOf
 locations c h l = record {
   stop = location-is c h l 0;
+  places = ap (λ (f : ℕ → ℕ). map f (speedsIn (l .targets) 8)) (fun-ext (location-is c h l));
+  fast = ap isFast (place-is c h l 0);
   call = first-same _ (callsFor c h l) 0 (min (count (l .targets)) 8) (λ i s. call-is c h l i (omega arith));
 }

@@ -28,7 +28,7 @@ use Rattle.demands.proofs.Decided.{session-is, decision-is}
 
 -- ---- in a history
 
-cause-after : (before call : ℕ) → 0 < before → cond (eqb before 0) call before ≡ before
+pub cause-after : (before call : ℕ) → 0 < before → cond (eqb before 0) call before ≡ before
 cause-after before call h = let n : before ≡ 0 → ⊥ = λ e. omega arith in rw (ne-eqb before 0 n)
 
 pub cause-stays : CauseStays
@@ -46,13 +46,13 @@ opening-stands x (consist.Refused r) n = refl
 
 module _ (p : Program) (m : Meets p) where
   call-stands : (x : Session) (k : Call) (ks : List Call) → 0 < x .cause → NotOpenedAnew p x (k ∷ ks) → replyOf p x k .0 .session .cause ≡ x .cause
-  unfolding openOf session.PenaltyStands session.afterCalls
+  unfolding openOf session.CauseStands session.afterSamples
   call-stands x (opening s) ks h n =
       let e = same p m .opens x s in
       ap (λ (a : Answered). a .session .cause) e
       ∙ ap (λ (y : Session). y .cause) (opening-stands x (readConsist s) (λ v. n .0 (ap (λ (a : Answered). a .verdict) e ∙ v)))
   call-stands x (sampling l) ks h n =
-      ap (λ (r : Reply). r .0 .session .cause) (same-reply p m x (sampling l)) ∙ session-laws.penalty-stands x (l ∷ []) h
+      ap (λ (r : Reply). r .0 .session .cause) (same-reply p m x (sampling l)) ∙ session-laws.cause-stands x (l ∷ []) h
 
   rest : (x : Session) (k : Call) (ks : List Call) → NotOpenedAnew p x (k ∷ ks) → NotOpenedAnew p (replyOf p x k .0 .session) ks
   rest x (opening s) ks n = n .1
@@ -89,19 +89,28 @@ module _ (p : Program) (m : Meets p) where
     unfolding causeAfter
     cause-stood s = ap (λ (e : Decision). e .cause) decision ∙ cause-after (x .cause) _ s
 
-not-zero : (n : ℕ) → not (eqb n 0) ≡ true → 0 < n
+pub not-zero : (n : ℕ) → not (eqb n 0) ≡ true → 0 < n
 not-zero zero h = absurd (let z : _≡_ {A = ℕ} 0 1 = cc in omega arith)
 not-zero (suc n) h = omega arith
 
-is-not-zero : (n : ℕ) → 0 < n → not (eqb n 0) ≡ true
+pub is-not-zero : (n : ℕ) → 0 < n → not (eqb n 0) ≡ true
 is-not-zero n h = let k : n ≡ 0 → ⊥ = λ e. omega arith in ap not (ne-eqb n 0 k)
+
+-- of a session z in which the cause stood
+pub decision-stands : (p : Program) → Meets p → (x z : Session) (l l′ : Lent) (d d′ : Decision) →
+    let y = replyOf p x (sampling l) .0 .session in
+    Decides (replyOf p x (sampling l)) d → d .penalty ≡ true → (0 < y .cause → z .cause ≡ y .cause) → Decides (replyOf p z (sampling l′)) d′
+    → (d′ .penalty ≡ true) × (d′ .cause ≡ d .cause)
+decision-stands p m x z l l′ d d′ h commanded stands h′ =
+    let y = replyOf p x (sampling l) .0 .session in
+    let held : y .cause ≡ d .cause = cause-held p m x l d h in
+    let some : 0 < d .cause = not-zero (d .cause) (sym (penalty-of p m x l d h) ∙ commanded) in
+    let stood : z .cause ≡ y .cause = stands (subst (λ (c : ℕ). 0 < c) (sym held) some) in
+    let now : d′ .cause ≡ d .cause = cause-stood p m z l′ d′ h′ (omega arith) ∙ stood ∙ held in
+    (penalty-of p m z l′ d′ h′ ∙ is-not-zero (d′ .cause) (omega arith), now)
 
 pub penalty-stands : PenaltyStands
 unfolding PenaltyStands
 penalty-stands p m x l l′ ks d d′ h commanded n h′ =
     let y = replyOf p x (sampling l) .0 .session in
-    let held : y .cause ≡ d .cause = cause-held p m x l d h in
-    let some : 0 < d .cause = not-zero (d .cause) (sym (penalty-of p m x l d h) ∙ commanded) in
-    let stood : afterCalls p y ks .cause ≡ y .cause = calls-stand p m y ks (subst (λ (c : ℕ). 0 < c) (sym held) some) n in
-    let now : d′ .cause ≡ d .cause = cause-stood p m (afterCalls p y ks) l′ d′ h′ (omega arith) ∙ stood ∙ held in
-    (penalty-of p m (afterCalls p y ks) l′ d′ h′ ∙ is-not-zero (d′ .cause) (omega arith), now)
+    decision-stands p m x (afterCalls p y ks) l l′ d d′ h commanded (λ some. calls-stand p m y ks some n) h′

@@ -7,7 +7,7 @@ use Rattle.session.specs.declared.Answer.{Answer}
 use Rattle.demands.specs.Program.{sampled, ours, OneProgram}
 
 -- a slice with these bytes; where it lies does not matter
-lent : List ℕ → RefT (List ℕ)
+unfoldable pub lent : List ℕ → RefT (List ℕ)
 lent bytes = record { ptr = (0, 0); name = 0; now = bytes }
 
 pub one-program : OneProgram

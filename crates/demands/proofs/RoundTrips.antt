@@ -1,4 +1,4 @@
--- The five round trips, from what each record's crate proves. Assumes nothing.
+-- The round trips, from what each record's crate proves. Assumes nothing.
 use mathlib.Core.Path.{_≡_, refl, sym, ap, subst, _∙_}
 use mathlib.Core.Bool.{Bool, true, not}
 use mathlib.Core.List.{List, _∷_, _++_}
@@ -26,8 +26,7 @@ use Rattle.profile.specs.RoundTrip as profile-specs
 use Rattle.profile.proofs.Rules as profile-rules
 use Rattle.profile.proofs.RoundTrip as profile
 use Rattle.targets.specs.declared.Target.{Target}
-use Rattle.targets.specs.Targets.{writeTargets}
-use Rattle.targets.specs.RoundTrip.{locationsIn, speedsIn}
+use Rattle.targets.specs.Targets.{writeTargets, locationsIn, speedsIn}
 use Rattle.targets.specs.RoundTrip as targets-specs
 use Rattle.targets.proofs.Rules as targets-rules
 use Rattle.targets.proofs.RoundTrip as targets
@@ -37,6 +36,9 @@ use Rattle.sample.proofs.Answers as sample-answers
 use Rattle.sample.proofs.RoundTrip as sample
 use Rattle.decision.specs.RoundTrip as decision-specs
 use Rattle.decision.proofs.RoundTrip as decision
+use Rattle.held.specs.RoundTrip as held-specs
+use Rattle.held.proofs.Answers as held-answers
+use Rattle.held.proofs.RoundTrip as held
 use Rattle.demands.specs.RoundTrips.{RoundTrip, Segments, ReadsSegments, Targets, ReadsTargets, Contracts, RoundTrips}
 
 -- ---- a record of n bytes
@@ -127,12 +129,19 @@ contracts = record {
   sample-write = λ l a r x p. sym p;
   decision-read = λ l a r x p. p;
   decision-write = λ l a r x p. sym p;
+  held-read = λ l a r x p. p;
+  held-write = λ l a r x p. sym p;
+  buongilach-write-consist = λ l a r x p. sym p;
+  buongilach-write-profile = λ l a r x p. sym p;
+  buongilach-write-targets = λ l a r x p. sym p;
+  buongilach-write-sample = λ l a r x p. sym p;
+  buongilach-read-decision = λ l a r x p. sym p;
 }
 
--- ---- the five
+-- ---- the records
 
 pub round-trips : RoundTrips
-unfolding consist-specs.WrittenReadsBack consist-specs.AcceptedWritesBack sample-specs.WrittenReadsBack sample-specs.AcceptedWritesBack decision-specs.WrittenReadsBack decision-specs.AcceptedWritesBack
+unfolding consist-specs.WrittenReadsBack consist-specs.AcceptedWritesBack sample-specs.WrittenReadsBack sample-specs.AcceptedWritesBack decision-specs.WrittenReadsBack decision-specs.AcceptedWritesBack held-specs.WrittenReadsBack held-specs.AcceptedWritesBack
 round-trips = record {
   contracts = contracts;
   consist = of-size 16 (λ s c h. consist.read-inv s c h .0) (λ c out any. consist.written-reads-back c out) consist.accepted-writes-back;
@@ -140,4 +149,5 @@ round-trips = record {
   targets = record { written-reads-back = λ c out any. targets-there c out; accepted-writes-back = targets-back };
   sample = of-size 20 (λ s raw h. right-length s (sample-answers.read-inv s raw h .0 .length)) sample.written-reads-back sample.accepted-writes-back;
   decision = of-size 8 (λ s d h. decision.read-inv s d h .0) (λ d out any. decision.written-reads-back d out) decision.accepted-writes-back;
+  held = of-size 36 (λ s x h. held-answers.read-inv s x h .size) (λ x out any. held.written-reads-back x out) held.accepted-writes-back;
 }

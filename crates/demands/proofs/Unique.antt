@@ -1,4 +1,7 @@
 -- No second answer satisfies a contract: each crate's proof, over all calls. Assumes nothing.
+use mathlib.Core.Path.{ap}
+use mathlib.Core.List.{List}
+use Prim.Native.Nat.{ℕ}
 use Rattle.refusal.proofs.Unique as refusal
 use Rattle.consist.proofs.Unique as consist
 use Rattle.profile.proofs.Unique as profile
@@ -6,6 +9,9 @@ use Rattle.targets.proofs.Unique as targets
 use Rattle.sample.proofs.Unique as sample
 use Rattle.decision.proofs.Unique as decision
 use Rattle.session.proofs.Unique as session
+use Rattle.held.proofs.Unique as held
+use Rattle.mount.specs.Mount.{Sampled}
+use Rattle.mount.proofs.Unique as mount
 use Rattle.demands.specs.Unique.{Unique}
 
 pub unique : Unique
@@ -31,4 +37,19 @@ unique = record {
   session-is-open = λ l a r₁ r₂ x₁ x₂. session.is-open-one l a r₁ r₂ x₁;
   session-open = λ l a r₁ r₂ x₁ x₂. session.open-one l a r₁ r₂ x₁;
   session-sample = session.sample-one;
+  held-read = λ l a r₁ r₂ x₁ x₂. held.read-one l a r₁ r₂ x₁;
+  held-write = held.write-one;
+  buongilach-open = mount.open-one;
+  buongilach-sample = λ l a r₁ r₂ x₁ x₂ p q.
+      ap {B = ℕ × (List ℕ × List ℕ)} (λ (y : Sampled). (y .0, (y .1, y .2))) (mount.sample-one l a r₁ r₂ x₁ x₂ p q);
+  buongilach-is-open = λ l a r₁ r₂ x₁ x₂. mount.is-open-one l a r₁ r₂ x₁;
+  buongilach-write-consist = mount.write-consist-one;
+  buongilach-judge-consist = λ l a r₁ r₂ x₁ x₂. mount.judge-consist-one l a r₁ r₂ x₁;
+  buongilach-write-profile = mount.write-profile-one;
+  buongilach-judge-profile = λ l a r₁ r₂ x₁ x₂. mount.judge-profile-one l a r₁ r₂ x₁;
+  buongilach-write-targets = mount.write-targets-one;
+  buongilach-judge-targets = λ l a r₁ r₂ x₁ x₂. mount.judge-targets-one l a r₁ r₂ x₁;
+  buongilach-write-sample = mount.write-sample-one;
+  buongilach-judge-sample = λ l a r₁ r₂ x₁ x₂. mount.judge-sample-one l a r₁ r₂ x₁;
+  buongilach-read-decision = mount.read-decision-one;
 }

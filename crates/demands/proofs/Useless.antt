@@ -11,17 +11,18 @@ use Rattle.walk.specs.declared.Prediction.{Prediction}
 use Rattle.walk.specs.Curve.{penaltyCurve}
 use Rattle.walk.proofs.predict.{signature}
 use Rattle.session.specs.declared.Session.{Session}
-use Rattle.session.specs.Sample.{sampleIn, brakeAfter, speedsIn, predictionOf, decisionOf}
+use Rattle.session.specs.Sample.{sampleIn, brakeAfter, predictionOf, decisionOf}
 use Rattle.session.specs.Figures as case
 use Rattle.session.proofs.Accepted.{predictable, walkable}
 use Rattle.session.proofs.Admitted.{ready}
 use Rattle.demands.specs.Program.{Program, Meets, ours}
 use Rattle.demands.specs.Run.{Call, opening, sampling, Reply, replyOf, afterCalls, Accepts, Decides}
-use Rattle.demands.specs.Useless.{Lends, LendsEach, IsRefused, RefusesOpenings, RefusesSamples, told, Constant, SessionUntouched, OutputUntouched, StepRepeated, RepeatsStep, RepeatsSample, Walker, MeetsPredict, WalkRepeatsStep, UselessRejected}
+use Rattle.demands.specs.Useless.{Lends, LendsEach, IsRefused, RefusesOpenings, RefusesSamples, said, Constant, SessionUntouched, OutputUntouched, StepRepeated, RepeatsStep, RepeatsSample, Walker, MeetsPredict, WalkRepeatsStep, UselessRejected}
 use Rattle.demands.proofs.Same.{same, same-reply, same-after}
 use Rattle.demands.proofs.Decided.{before, decided}
 use Rattle.demands.proofs.Slices.{slice}
 use Rattle.demands.proofs.Case.{first, second, opened, standing, computed}
+use Rattle.targets.specs.Targets.{speedsIn}
 
 -- ---- what is lent in the case
 
@@ -84,10 +85,10 @@ module _ (p : Program) (m : Meets p) where
   two-accepted : Accepts two
   two-accepted = ap (λ (r : Reply). r .0 .verdict) two-is ∙ computed .second-accepted
 
-  told-otherwise : told two ≡ told one → ⊥
+  told-otherwise : said two ≡ said one → ⊥
   told-otherwise e =
-      let one-told : told one ≡ 0 ∷ 0 ∷ 19 ∷ 136 ∷ [] = ap told one-is ∙ ap (λ (l : List ℕ). drop 4 (take 8 l)) (computed .first-line) in
-      let two-told : told two ≡ 17 ∷ 0 ∷ 19 ∷ 168 ∷ [] = ap told two-is ∙ ap (λ (l : List ℕ). drop 4 (take 8 l)) (computed .second-line) in
+      let one-told : said one ≡ 0 ∷ 0 ∷ 19 ∷ 136 ∷ [] = ap said one-is ∙ ap (λ (l : List ℕ). drop 4 (take 8 l)) (computed .first-line) in
+      let two-told : said two ≡ 17 ∷ 0 ∷ 19 ∷ 168 ∷ [] = ap said two-is ∙ ap (λ (l : List ℕ). drop 4 (take 8 l)) (computed .second-line) in
       let z : _≡_ {A = ℕ} 17 0 = cc in
       omega arith
 
@@ -145,7 +146,7 @@ walk-repeats-step w meets k =
     let admitted = before standing (second .sample) p (second .targets) (second .out) (computed .second-accepted) in
     let asked = walkable c b m p (predictable standing m p (ready standing (second .sample) p (second .targets) admitted)) in
     let curve = penaltyCurve c (b .a) (b .b) in
-    let speeds = speedsIn (second .targets) in
+    let speeds = speedsIn (second .targets) 8 in
     let given : ArgsD signature tt = (c, (curve, (layOf p, (m .head, (m .speed, (speeds, tt)))))) in
     let found = meets tt given given asked in
     let z : _≡_ {A = ℕ} 5032 5048 =
@@ -163,5 +164,6 @@ useless-rejected = record {
     repeats-step = repeats-step p m;
     repeats-sample = repeats-sample p m;
   };
+  walks = λ κs a x h. refl;
   walk = walk-repeats-step;
 }

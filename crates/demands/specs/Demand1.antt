@@ -50,6 +50,10 @@ use Rattle.session.proofs.none as session-none
 use Rattle.session.proofs.is_open as session-is-open
 use Rattle.session.proofs.open as session-open
 use Rattle.session.proofs.sample as session-sample
+use Rattle.held.specs.Held as held
+use Rattle.held.specs.declared.Answer.the-variants as held-answer
+use Rattle.held.proofs.read as held-read
+use Rattle.held.proofs.write as held-write
 
 -- ---- "every refusal carries one number from the table"
 
@@ -179,3 +183,10 @@ pub record Demand-1 : Type 2 where
       let out = now (a .1 .1 .1 .1 .0) in
       RefusesUnchanged (1 ∷ 2 ∷ 3 ∷ 6 ∷ 7 ∷ 8 ∷ 9 ∷ 10 ∷ 11 ∷ 12 ∷ []) (rules (a .0) s p t out) verdict.Refused (r .verdict)
       {S = Session × List ℕ} (a .0, out) (r .session, now (x .1 .1 .1 .1 .0)))
+  -- the session's record: reader, writer
+  pub held-read :
+      PublicCall held-read.Statement.statement held-read.Reads.Asked held-read.Reads.Post
+      (λ l a r x. Refuses (1 ∷ []) (held.readRules (now (a .0))) held-answer.Refused r)
+  pub held-write :
+      PublicCall held-write.Statement.statement held-write.Reads.Asked held-write.Reads.Post
+      (λ l a r x. let out = now (a .1 .0) in RefusesUnchanged (1 ∷ 12 ∷ []) (held.writeRules (a .0) out) verdict.Refused r out (now (x .1 .0)))

@@ -2,15 +2,15 @@
 -- stands until the session is opened anew." Statements; proofs/Demand2.antt, proofs/Locations.antt and proofs/Penalty.antt prove them.
 use mathlib.Core.Path.{_≡_}
 use mathlib.Core.Bool.{Bool, true}
-use mathlib.Core.List.{List, [], _∷_, _++_}
+use mathlib.Core.List.{List, [], _∷_, _++_, map}
 use Prim.Native.Nat.{ℕ, _*_, _<_, min}
 use Rattle.consist.specs.declared.Consist.{Consist}
-use Rattle.targets.specs.Targets.{count, targetAt}
+use Rattle.targets.specs.Targets.{count, targetAt, speedsIn}
 use Rattle.decision.specs.declared.Decision.{Decision}
 use Rattle.track.specs.Track.{layOf}
 use Rattle.walk.specs.Curve.{forceAt, penaltyCurve}
 use Rattle.walk.specs.Step.{groundOf}
-use Rattle.walk.specs.Walk.{locationOf}
+use Rattle.walk.specs.Walk.{Place, locationOf, isFast}
 use Rattle.walk.specs.Literal.{walkZ, startZ}
 use Rattle.judge.specs.Judge.{isCalled, firstFrom}
 use Rattle.session.specs.declared.Session.{Session}
@@ -39,12 +39,15 @@ DecisionRead =
 
 module _ (c : Consist) (h : List Lent) (l : Lent) where
   -- "The location for a target speed is the head when q first is at or below that speed squared." For the stop the speed is 0.
-  abbrev pub locationFor : ℕ → ℕ
-  locationFor u =
+  abbrev pub placeAt : ℕ → Place
+  placeAt u =
       let k = brakes c (l ∷ h) in
       let m = sampleIn (l .sample) in
       let force = forceAt (c .rated) (penaltyCurve c (k .a) (k .b)) in
-      locationOf (walkZ c force (groundOf (layOf (l .profile)) (c .length)) (u * u) 2048 (startZ (m .head) (m .speed)))
+      walkZ c force (groundOf (layOf (l .profile)) (c .length)) (u * u) 2048 (startZ (m .head) (m .speed))
+
+  abbrev pub locationFor : ℕ → ℕ
+  locationFor u = locationOf (placeAt u)
 
   -- "The penalty is called when location plus offset is greater than the target": of target k
   abbrev pub callsFor : ℕ → Bool
@@ -55,6 +58,9 @@ module _ (c : Consist) (h : List Lent) (l : Lent) where
 
   pub record Located : Type 0 where
     pub stop : predictionAt c h l .stop ≡ locationFor 0
+    pub places : predictionAt c h l .places ≡ map locationFor (speedsIn (l .targets) 8)
+    -- 11: "the walk's squared speed exceeds 1,000,000,000"
+    pub fast : predictionAt c h l .fast ≡ isFast (placeAt 0)
     -- "The cause is the first such target"
     pub call : callAt c h l ≡ firstFrom callsFor 0 (min (count (l .targets)) 8)
 

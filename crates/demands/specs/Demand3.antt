@@ -2,6 +2,7 @@
 -- no lower, rated brake force no higher, application time no shorter and target offset no smaller. Its location is never short of the other's,
 -- for a stop or for any target speed; and if the other calls for the penalty, so does it." A statement; proofs/Demand3.antt proves it.
 use mathlib.Core.Path.{_≡_}
+use mathlib.Core.Bool.{true}
 use mathlib.Core.List.{List}
 use Prim.Native.Nat.{ℕ, _≤_, _<_}
 use Rattle.sample.specs.declared.Sample.{Sample}
@@ -45,6 +46,8 @@ pub record AsCautious (one other : Session) (m n : Sample) (profile targets : Li
   pub not-short : (u : ℕ) → NotShort (placeOf one m profile u) (placeOf other n profile u)
   -- "a call is the prediction's own, apart from a penalty already standing"
   pub called : 0 < calledOf other n profile targets → 0 < calledOf one m profile targets
+  -- in the decisions: where none stood before it, the other's penalty is its own call
+  pub penalty : other .cause ≡ 0 → d′ .penalty ≡ true → d .penalty ≡ true
 
 -- of any two sample calls that are accepted, whatever the sessions
 unfoldable pub Demand-3 : Type 0

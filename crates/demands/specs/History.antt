@@ -19,8 +19,9 @@ use Rattle.brake.specs.Brake.{opened}
 use Rattle.brake.specs.Rules.{updateOf}
 use Rattle.walk.specs.declared.Prediction.{Prediction}
 use Rattle.judge.specs.Judge.{causeOf}
-use Rattle.session.specs.Sample.{sampleIn, notCovered, speedsIn, locationsIn, predictionOf}
+use Rattle.session.specs.Sample.{sampleIn, notCovered, predictionOf}
 use Rattle.session.specs.Laws.{Lent}
+use Rattle.targets.specs.Targets.{speedsIn, locationsIn}
 
 -- ---- "The air brakes, once a sample"
 
@@ -32,14 +33,14 @@ brakes c (l ∷ h) = let m = sampleIn (l .sample) in updateOf c (brakes c h) (m 
 
 -- "It starts after the update, with A, B and clock t = 0"
 unfoldable pub predictionAt : Consist → List Lent → Lent → Prediction
-predictionAt c h l = predictionOf c (brakes c (l ∷ h)) (sampleIn (l .sample)) (l .profile) (speedsIn (l .targets))
+predictionAt c h l = predictionOf c (brakes c (l ∷ h)) (sampleIn (l .sample)) (l .profile) (speedsIn (l .targets) 8)
 
 -- the first target that it calls for the penalty by, 0 for none
 unfoldable pub callAt : Consist → List Lent → Lent → ℕ
 callAt c h l =
     let m = sampleIn (l .sample) in
     let t = l .targets in
-    causeOf (c .offset) (m .head) (m .speed) (targets.count t) (locationsIn t) (speedsIn t) (predictionAt c h l .places)
+    causeOf (c .offset) (m .head) (m .speed) (targets.count t) (locationsIn t 8) (speedsIn t 8) (predictionAt c h l .places)
 
 -- the calls of a history, the earliest first
 unfoldable pub callsIn : Consist → List Lent → List ℕ

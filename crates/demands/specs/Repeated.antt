@@ -10,7 +10,7 @@ use Rattle.walk.specs.declared.Curve.{Curve}
 use Rattle.walk.specs.declared.Run.{Run}
 use Rattle.walk.specs.Curve.{forceAt}
 use Rattle.walk.specs.Step.{Ground, groundOf, loss, stepTime}
-use Rattle.walk.specs.Walk.{Place, never, tooFast, verdict, start, locationOf}
+use Rattle.walk.specs.Walk.{Place, never, tooFast, placeBy, start, locationOf}
 
 -- a step from the values at the start of the first one, and not from those at its own
 unfoldable pub stepAgain : Consist → (ℕ → ℕ) → Ground → Run → Run → Run
@@ -24,10 +24,10 @@ stepAgain c force ground first r = record {
 }
 
 unfoldable pub walkAgain : Consist → (ℕ → ℕ) → Ground → Run → ℕ → ℕ → Run → Place
-walkAgain c force ground first limit zero r = verdict (tooFast (r .q)) (leb (r .q) limit) (r .head) never
+walkAgain c force ground first limit zero r = placeBy (tooFast (r .q)) (leb (r .q) limit) (r .head) never
 walkAgain c force ground first limit (suc n) r =
     let rest : Place = walkAgain c force ground first limit n (stepAgain c force ground first r) in
-    verdict (tooFast (r .q)) (leb (r .q) limit) (r .head) rest
+    placeBy (tooFast (r .q)) (leb (r .q) limit) (r .head) rest
 
 -- where it stops, under a brake curve and over a track
 unfoldable pub stopAgain : Consist → Curve → Track → ℕ → ℕ → ℕ

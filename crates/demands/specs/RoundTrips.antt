@@ -1,5 +1,5 @@
 -- "Records are read and written by one layout: what is written reads back the same, and what is accepted would be written with the same bits."
--- One statement over any record, and the five records. Statements; proofs/RoundTrips.antt proves them.
+-- One statement over any record, the five records, and the session's own. Statements; proofs/RoundTrips.antt proves them.
 use mathlib.Core.Path.{_≡_}
 use mathlib.Core.List.{List, _++_}
 use Prim.Native.Nat.{ℕ, _*_, _≤_}
@@ -33,6 +33,17 @@ use Rattle.decision.specs.declared.Answer.the-variants as decision
 use Rattle.decision.specs.Decision.{readDecision, writeDecision}
 use Rattle.decision.proofs.read.Reads as decision-read
 use Rattle.decision.proofs.write.Reads as decision-write
+use Rattle.held.specs.declared.Answer.the-variants as held
+use Rattle.held.specs.Held.{readSession, writeSession}
+use Rattle.held.proofs.read.Reads as held-read
+use Rattle.held.proofs.write.Reads as held-write
+use Rattle.mount.specs.Records.{consistWritten, profileWritten, targetsWritten, sampleWritten, decisionRead}
+use Rattle.mount.proofs.records.buongilach_write_consist.Reads as buongilach-write-consist
+use Rattle.mount.proofs.records.buongilach_write_profile.Reads as buongilach-write-profile
+use Rattle.mount.proofs.records.buongilach_write_targets.Reads as buongilach-write-targets
+use Rattle.mount.proofs.records.buongilach_write_sample.Reads as buongilach-write-sample
+use Rattle.mount.proofs.records.buongilach_read_decision.Reads as buongilach-read-decision
+use Rattle.demands.specs.Given.{consistGiven, sampleGiven}
 
 -- ---- the law
 
@@ -91,8 +102,25 @@ pub record Contracts : Type 0 where
   pub sample-write : Says sample-write.Post (λ l a r x. writeSample (a .0) (now (a .1 .0)) ≡ (r, now (x .1 .0)))
   pub decision-read : Says decision-read.Post (λ l a r x. r ≡ readDecision (now (a .0)))
   pub decision-write : Says decision-write.Post (λ l a r x. writeDecision (a .0) (now (a .1 .0)) ≡ (r, now (x .1 .0)))
+  pub held-read : Says held-read.Post (λ l a r x. r ≡ readSession (now (a .0)))
+  pub held-write : Says held-write.Post (λ l a r x. writeSession (a .0) (now (a .1 .0)) ≡ (r, now (x .1 .0)))
+  -- for C; specs/MountedRecords.antt says how what they write reads
+  pub buongilach-write-consist :
+      Says buongilach-write-consist.Post
+      (λ l a r x.
+      consistWritten (consistGiven l a) (now (a .1 .1 .1 .1 .1 .1 .1 .1 .1 .0)) ≡ (r, now (x .1 .1 .1 .1 .1 .1 .1 .1 .1 .0)))
+  pub buongilach-write-profile :
+      Says buongilach-write-profile.Post
+      (λ l a r x. profileWritten (now (a .0)) (now (a .1 .0)) (now (a .1 .1 .0)) (now (a .1 .1 .1 .0)) ≡ (r, now (x .1 .1 .1 .0)))
+  pub buongilach-write-targets :
+      Says buongilach-write-targets.Post (λ l a r x. targetsWritten (now (a .0)) (now (a .1 .0)) (now (a .1 .1 .0)) ≡ (r, now (x .1 .1 .0)))
+  pub buongilach-write-sample :
+      Says buongilach-write-sample.Post
+      (λ l a r x.
+      sampleWritten (sampleGiven l a) (now (a .1 .1 .1 .1 .1 .1 .0)) ≡ (r, now (x .1 .1 .1 .1 .1 .1 .0)))
+  pub buongilach-read-decision : Says buongilach-read-decision.Post (λ l a r x. decisionRead (now (a .0)) (now (a .1 .0)) ≡ (r, now (x .1 .0)))
 
--- ---- the five records
+-- ---- the five records, and the session's
 
 pub record RoundTrips : Type 0 where
   pub contracts : Contracts
@@ -102,3 +130,4 @@ pub record RoundTrips : Type 0 where
   -- each reading is a binary32, as every f32 of the code is
   pub sample : RoundTrip Binary32 (λ raw. 20) (λ s raw. readSample s ≡ sample.Accepted raw) writeSample
   pub decision : RoundTrip Any (λ d. 8) (λ s d. readDecision s ≡ decision.Accepted d) writeDecision
+  pub held : RoundTrip Any (λ x. 36) (λ s x. readSession s ≡ held.Accepted x) writeSession

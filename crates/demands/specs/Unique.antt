@@ -1,6 +1,8 @@
 -- "Show that no second answer satisfies it." Statements; proofs/Unique.antt proves them.
 -- Each contract is taken as the check reads it from the source: `Post` of what is given, the answer, and what was given, after the call.
 use mathlib.Core.Path.{_≡_}
+use mathlib.Core.List.{List}
+use Prim.Native.Nat.{ℕ}
 use denote.Ref.{now}
 use Rattle.refusal.proofs.number.Reads as refusal-number
 use Rattle.refusal.proofs.verdict_number.Reads as refusal-verdict-number
@@ -23,6 +25,20 @@ use Rattle.session.proofs.none.Reads as session-none
 use Rattle.session.proofs.is_open.Reads as session-is-open
 use Rattle.session.proofs.open.Reads as session-open
 use Rattle.session.proofs.sample.Reads as session-sample
+use Rattle.held.proofs.read.Reads as held-read
+use Rattle.held.proofs.write.Reads as held-write
+use Rattle.mount.proofs.buongilach_open.Reads as buongilach-open
+use Rattle.mount.proofs.buongilach_sample.Reads as buongilach-sample
+use Rattle.mount.proofs.buongilach_is_open.Reads as buongilach-is-open
+use Rattle.mount.proofs.records.buongilach_write_consist.Reads as buongilach-write-consist
+use Rattle.mount.proofs.records.buongilach_judge_consist.Reads as buongilach-judge-consist
+use Rattle.mount.proofs.records.buongilach_write_profile.Reads as buongilach-write-profile
+use Rattle.mount.proofs.records.buongilach_judge_profile.Reads as buongilach-judge-profile
+use Rattle.mount.proofs.records.buongilach_write_targets.Reads as buongilach-write-targets
+use Rattle.mount.proofs.records.buongilach_judge_targets.Reads as buongilach-judge-targets
+use Rattle.mount.proofs.records.buongilach_write_sample.Reads as buongilach-write-sample
+use Rattle.mount.proofs.records.buongilach_judge_sample.Reads as buongilach-judge-sample
+use Rattle.mount.proofs.records.buongilach_read_decision.Reads as buongilach-read-decision
 
 module _ {L : Type 0} {Given Answer Exit : L → Type 0} (Post : (l : L) → Given l → Answer l → Exit l → Type 0) where
   -- of the same input, two answers that the contract allows are one
@@ -58,3 +74,18 @@ pub record Unique : Type 0 where
   -- the session is part of the answer
   pub session-open : One session-open.Post
   pub session-sample : OneWith session-sample.Post (λ l x. now (x .1 .1 .1 .1 .0))
+  pub held-read : One held-read.Post
+  pub held-write : OneWith held-write.Post (λ l x. now (x .1 .0))
+  -- the C library: to a call with a session its bytes are lent, and to a sample call the decision's too
+  pub buongilach-open : OneWith buongilach-open.Post (λ l x. now (x .0))
+  pub buongilach-sample : OneWith buongilach-sample.Post {Lent = List ℕ × List ℕ} (λ l x. (now (x .0), now (x .1 .1 .1 .1 .0)))
+  pub buongilach-is-open : One buongilach-is-open.Post
+  pub buongilach-write-consist : OneWith buongilach-write-consist.Post (λ l x. now (x .1 .1 .1 .1 .1 .1 .1 .1 .1 .0))
+  pub buongilach-judge-consist : One buongilach-judge-consist.Post
+  pub buongilach-write-profile : OneWith buongilach-write-profile.Post (λ l x. now (x .1 .1 .1 .0))
+  pub buongilach-judge-profile : One buongilach-judge-profile.Post
+  pub buongilach-write-targets : OneWith buongilach-write-targets.Post (λ l x. now (x .1 .1 .0))
+  pub buongilach-judge-targets : One buongilach-judge-targets.Post
+  pub buongilach-write-sample : OneWith buongilach-write-sample.Post (λ l x. now (x .1 .1 .1 .1 .1 .1 .0))
+  pub buongilach-judge-sample : One buongilach-judge-sample.Post
+  pub buongilach-read-decision : OneWith buongilach-read-decision.Post (λ l x. now (x .1 .0))

@@ -16,7 +16,9 @@ use Rattle.track.specs.declared.Track.{Track}
 use Rattle.track.specs.Track.{layOf}
 use Rattle.walk.specs.declared.Curve.{Curve}
 use Rattle.walk.specs.declared.Prediction.{Prediction}
-use Rattle.walk.specs.Curve.{penaltyCurve}
+use Rattle.walk.specs.Curve.{forceAt, penaltyCurve}
+use Rattle.walk.specs.Step.{groundOf}
+use Rattle.walk.specs.Walk.{predictOf}
 use Rattle.walk.specs.Range.{Walkable}
 use Rattle.walk.proofs.predict.{signature, ended}
 use Rattle.walk.proofs.predict.Reads as predict-reads
@@ -62,12 +64,12 @@ RefusesSamples p = EverySample p (λ x l r. IsRefused r)
 -- ---- "One with a constant answer, and one that leaves session and output untouched, are caught by demand 2"
 
 -- what a decision tells after its mark and time: brake state, penalty, cause and stopping location
-abbrev pub told : Reply → List ℕ
-told r = drop 4 (take 8 (r .1))
+abbrev pub said : Reply → List ℕ
+said r = drop 4 (take 8 (r .1))
 
 -- the same in every sample call that it accepts
 abbrev pub Constant : Program → Type 0
-Constant p = (b : List ℕ) × EverySample p (λ x l r. Accepts r → told r ≡ b)
+Constant p = (b : List ℕ) × EverySample p (λ x l r. Accepts r → said r ≡ b)
 
 abbrev pub SessionUntouched : Program → Type 0
 SessionUntouched p = EverySample p (λ x l r. r .0 .session ≡ x)
@@ -88,13 +90,13 @@ StepRepeated x l r =
 abbrev pub RepeatsStep : Program → Type 0
 RepeatsStep p = EverySample p StepRepeated
 
--- what is told of an accepted sample is told of the next one again
+-- what is said of an accepted sample is said of the next one again
 abbrev pub RepeatsSample : Program → Type 0
 RepeatsSample p =
     EverySample p (λ x l r.
     (l′ : Lent) → Lends (sampling l′) →
     let r′ = replyOf p (r .0 .session) (sampling l′) in
-    Accepts r → Accepts r′ → told r′ ≡ told r)
+    Accepts r → Accepts r′ → said r′ ≡ said r)
 
 -- the same of what stands in for walk::predict, whose contract, of every input that it asks for, the check reads from the source
 abbrev pub Walker : Type 0
@@ -104,6 +106,10 @@ abbrev pub MeetsPredict : Walker → Type 0
 MeetsPredict w =
     (κs : Lfts 0) (a : ArgsD signature κs) (x : AtExit ended κs) → predict-reads.Pre κs a →
     predict-reads.Post κs a (w (a .0) (a .1 .0) (a .1 .1 .0) (a .1 .1 .1 .0) (a .1 .1 .1 .1 .0) (a .1 .1 .1 .1 .1 .0)) x
+
+-- one meets it
+abbrev pub ourWalker : Walker
+ourWalker c curve track head v speeds = predictOf c (forceAt (c .rated) curve) (groundOf track (c .length)) head v speeds
 
 abbrev pub WalkRepeatsStep : Walker → Type 0
 WalkRepeatsStep w =
@@ -123,4 +129,5 @@ pub record NotUseless (p : Program) : Type 0 where
 
 pub record UselessRejected : Type 0 where
   pub program : (p : Program) → Meets p → NotUseless p
+  pub walks : MeetsPredict ourWalker
   pub walk : (w : Walker) → MeetsPredict w → WalkRepeatsStep w → ⊥

@@ -6,17 +6,14 @@ use Rattle.refusal.specs.declared.Refusal.the-variants.{BrokenProfile, NoRoom}
 use Rattle.feed.specs.declared.opening.Part.the-variants.{Bytes, Broken}
 use Rattle.feed.specs.Opening.{profileAhead, targetsAhead}
 use Rattle.feed.specs.Line.{decimal, decisionText, refusalText}
+use Rattle.feed.specs.Case.{firstLine, secondLine, crossed}
 
 pub record Figures : Type 0 where
   -- `0 0 0 0 5000` and `1 0 1 1 5032`, of 01's case
-  pub first-line :
-      decisionText (record { time = 0; state = 0; penalty = false; cause = 0; stop = 5000 })
-      ≡ 48 ∷ 32 ∷ 48 ∷ 32 ∷ 48 ∷ 32 ∷ 48 ∷ 32 ∷ 53 ∷ 48 ∷ 48 ∷ 48 ∷ 10 ∷ []
-  pub second-line :
-      decisionText (record { time = 1; state = 0; penalty = true; cause = 1; stop = 5032 })
-      ≡ 49 ∷ 32 ∷ 48 ∷ 32 ∷ 49 ∷ 32 ∷ 49 ∷ 32 ∷ 53 ∷ 48 ∷ 51 ∷ 50 ∷ 10 ∷ []
+  pub first-line : decisionText (record { time = 0; state = 0; penalty = false; cause = 0; stop = 5000 }) ≡ firstLine
+  pub second-line : decisionText (record { time = 1; state = 0; penalty = true; cause = 1; stop = 5032 }) ≡ secondLine
   -- `x 6` and `x 12`
-  pub one-digit : refusalText BrokenProfile ≡ 120 ∷ 32 ∷ 54 ∷ 10 ∷ []
+  pub one-digit : refusalText BrokenProfile ≡ crossed 54
   pub two-digits : refusalText NoRoom ≡ 120 ∷ 32 ∷ 49 ∷ 50 ∷ 10 ∷ []
   -- the no-stop value
   pub largest : decimal 16777215 ≡ 49 ∷ 54 ∷ 55 ∷ 55 ∷ 55 ∷ 50 ∷ 49 ∷ 53 ∷ []

@@ -17,7 +17,7 @@ use Rattle.consist.specs.Consist as consist
 use Rattle.session.specs.declared.Session.{Session}
 use Rattle.session.specs.Session.{isOpen}
 use Rattle.held.specs.declared.Answer.the-variants.{Accepted, Refused}
-use Rattle.held.specs.Held.{fieldsAt, sessionIn, bytesOf, wrongMark, noSession, answer, readSession, writeSession}
+use Rattle.held.specs.Held.{fieldsAt, sessionIn, bytesOf, notHeld, noSession, answer, readSession, writeSession}
 
 -- ---- the reader
 
@@ -30,7 +30,7 @@ module _ (s : List ℕ) where
   unfolding noSession
   read-length h = refused (rw (ne-eqb (length s) 36 h))
 
-  pub read-mark : wrongMark (fieldsAt s) ≡ true → readSession s ≡ Refused NoSession
+  pub read-mark : notHeld (fieldsAt s) ≡ true → readSession s ≡ Refused NoSession
   unfolding noSession
   read-mark h = refused (simp (h, or-true))
 
@@ -38,7 +38,7 @@ module _ (s : List ℕ) where
   unfolding noSession
   read-closed h = refused (simp (h, or-true))
 
-  pub read-accepted : length s ≡ 36 → wrongMark (fieldsAt s) ≡ false → isOpen (sessionIn s) ≡ true → readSession s ≡ Accepted (sessionIn s)
+  pub read-accepted : length s ≡ 36 → notHeld (fieldsAt s) ≡ false → isOpen (sessionIn s) ≡ true → readSession s ≡ Accepted (sessionIn s)
   unfolding readSession noSession
   read-accepted l m h =
       ap (λ (v : Verdict). answer v (sessionIn s)) (last-passed _ _ (rw (eq-eqb (length s) 36 l, m, h)))
@@ -46,7 +46,7 @@ module _ (s : List ℕ) where
 -- bytes that an open session has
 pub record Has (s : List ℕ) (x : Session) : Type 0 where
   pub size : length s ≡ 36
-  pub mark : wrongMark (fieldsAt s) ≡ false
+  pub mark : notHeld (fieldsAt s) ≡ false
   pub open-session : isOpen x ≡ true
   pub stands : sessionIn s ≡ x
 
@@ -58,8 +58,8 @@ pub read-inv : (s : List ℕ) (x : Session) → readSession s ≡ Accepted x →
 unfolding readSession noSession
 read-inv s x h =
     let a = answer-accepted _ _ _ h in
-    let n = neither (not (eqb (length s) 36) || wrongMark (fieldsAt s)) (not (isOpen (sessionIn s))) (accepted _ _ _ (a .0) .0) in
-    let m = neither (not (eqb (length s) 36)) (wrongMark (fieldsAt s)) (n .0) in
+    let n = neither (not (eqb (length s) 36) || notHeld (fieldsAt s)) (not (isOpen (sessionIn s))) (accepted _ _ _ (a .0) .0) in
+    let m = neither (not (eqb (length s) 36)) (notHeld (fieldsAt s)) (n .0) in
     record {
       size = eqb-true (length s) 36 (not-false (eqb (length s) 36) (m .0));
       mark = m .1;

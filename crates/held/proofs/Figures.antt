@@ -4,11 +4,11 @@ use Rattle.refusal.specs.Lowest.{lowest}
 use Rattle.consist.specs.Consist as consist
 use Rattle.brake.specs.Sound as brake
 use Rattle.session.specs.Session.{isOpen}
-use Rattle.held.specs.Held.{sessionIn, bytesOf, wrongMark, noSession, readSession}
+use Rattle.held.specs.Held.{sessionIn, bytesOf, notHeld, noSession, readSession}
 use Rattle.held.specs.Figures.{Figures}
 
 pub figures : Figures
-unfolding sessionIn bytesOf wrongMark noSession readSession lowest isOpen consist.consistIn consist.bytesOf consist.inRange consist.tooLight consist.isSound brake.isSound
+unfolding sessionIn bytesOf notHeld noSession readSession lowest isOpen consist.consistIn consist.bytesOf consist.inRange consist.tooLight consist.isSound brake.isSound
 figures = record {
   written = refl;
   read = refl;

@@ -24,7 +24,7 @@ use Rattle.session.specs.declared.Session.{Session}
 use Rattle.session.specs.Session.{isOpen}
 use Rattle.session.proofs.Admitted.{opened}
 use Rattle.held.specs.declared.Answer.the-variants.{Accepted}
-use Rattle.held.specs.Held.{mark, widths, fieldsOf, fieldsAt, ofFields, sessionIn, bytesOf, wrongMark, readSession}
+use Rattle.held.specs.Held.{mark, widths, fieldsOf, fieldsAt, ofFields, sessionIn, bytesOf, notHeld, readSession}
 use Rattle.held.specs.RoundTrip.{WrittenReadsBack, AcceptedWritesBack, BytesTell}
 use Rattle.held.proofs.Open.{to-number, fits, of-fields}
 use Rattle.held.proofs.Answers.{read-accepted, read-inv, write-accepted, write-inv}
@@ -46,16 +46,16 @@ module _ (x : Session) (o : isOpen x ≡ true) where
   unfolding sessionIn
   stands = ap₂ ofFields fields-back consist-back ∙ of-fields x o
 
-  its-mark : wrongMark (fieldsOf x) ≡ false
-  unfolding wrongMark
+  its-mark : notHeld (fieldsOf x) ≡ false
+  unfolding notHeld
   its-mark = le-ltb 5 _ (number-most (x .brake .state))
 
   size : length (bytesOf x) ≡ 36
   unfolding bytesOf consist.bytesOf
   size = refl
 
-  bytes-read : readSession (bytesOf x) ≡ Accepted x
-  bytes-read = read-accepted (bytesOf x) size (ap wrongMark fields-back ∙ its-mark) (ap isOpen stands ∙ o) ∙ ap Accepted stands
+  pub bytes-read : readSession (bytesOf x) ≡ Accepted x
+  bytes-read = read-accepted (bytesOf x) size (ap notHeld fields-back ∙ its-mark) (ap isOpen stands ∙ o) ∙ ap Accepted stands
 
 pub written-reads-back : WrittenReadsBack
 unfolding WrittenReadsBack bytesOf consist.bytesOf
@@ -70,8 +70,8 @@ bytes-tell x y o p h = sym (stands x o) ∙ ap sessionIn h ∙ stands y p
 -- ---- the bits of what is accepted
 
 -- the fields of a number that begins with the mark and a state's number
-to-fields : (n : ℕ) (c : Consist) → wrongMark (split widths n) ≡ false → fieldsOf (ofFields (split widths n) c) ≡ split widths n
-unfolding wrongMark
+to-fields : (n : ℕ) (c : Consist) → notHeld (split widths n) ≡ false → fieldsOf (ofFields (split widths n) c) ≡ split widths n
+unfolding notHeld
 to-fields n c h =
     let fs = split widths n in
     let m = neither (not (eqb (getD fs 0 0) mark)) (ltb 5 (getD fs 1 0)) h in
@@ -80,7 +80,7 @@ to-fields n c h =
     let sampled = to-bit (getD fs 2 0) (split-fit widths n .1 .1 .0) in
     λ i. sym first i ∷ state i ∷ sampled i ∷ getD fs 3 0 ∷ getD fs 4 0 ∷ getD fs 5 0 ∷ getD fs 6 0 ∷ getD fs 7 0 ∷ getD fs 8 0 ∷ getD fs 9 0 ∷ getD fs 10 0 ∷ getD fs 11 0 ∷ []
 
-same-bits : (s : List ℕ) → Bytes s → length s ≡ 36 → wrongMark (fieldsAt s) ≡ false → bytesOf (sessionIn s) ≡ s
+same-bits : (s : List ℕ) → Bytes s → length s ≡ 36 → notHeld (fieldsAt s) ≡ false → bytesOf (sessionIn s) ≡ s
 unfolding sessionIn bytesOf consist.consistIn consist.bytesOf
 same-bits s b l m =
     let k : length (take 20 s) ≡ 20 = simp length-take (omega (arith, l)) in

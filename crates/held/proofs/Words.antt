@@ -22,7 +22,7 @@ use Rattle.consist.proofs.Sound as consist-sound
 use Rattle.session.specs.declared.Session.{Session}
 use Rattle.session.specs.Session.{isOpen}
 use Rattle.session.proofs.Admitted.{opened}
-use Rattle.held.specs.Held.{widths, fieldsOf, fieldsAt, ofFields, sessionIn, bytesOf, wrongMark}
+use Rattle.held.specs.Held.{widths, fieldsOf, fieldsAt, ofFields, sessionIn, bytesOf, notHeld}
 use Rattle.held.specs.Steps.{firstWidths, secondWidths, thirdWidths, fieldsFrom, firstFields, secondFields, thirdFields, firstWord, secondWord, thirdWord}
 use Rattle.bits.proofs.Parts.{fields-append, bytes-append, put-part, put-word}
 use Rattle.held.proofs.Open.{fits}
@@ -53,9 +53,9 @@ module _ (s : List ℕ) (b : Bytes s) (size : length s ≡ 36) where
       ∙ sym (more (firstWidths ++ secondWidths) thirdWidths 16 4 (omega (arith, size)) refl)
 
   -- the mark and the state stand in the first word
-  pub mark-read : wrongMark (split firstWidths (wordAt 0 8 s)) ≡ wrongMark (fieldsAt s)
-  unfolding wrongMark
-  mark-read = ap wrongMark words-read
+  pub mark-read : notHeld (split firstWidths (wordAt 0 8 s)) ≡ notHeld (fieldsAt s)
+  unfolding notHeld
+  mark-read = ap notHeld words-read
 
   -- the consist is the rest
   rest : take 16 (drop 20 s) ≡ drop 20 s

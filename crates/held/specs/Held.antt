@@ -71,12 +71,12 @@ unfoldable pub bytesOf : Session → List ℕ
 bytesOf x = bytesFrom 20 widths (fieldsOf x) ++ consist.bytesOf (x .consist)
 
 -- another mark, or a state of 6 or 7, of the fields that are read
-unfoldable pub wrongMark : List ℕ → Bool
-wrongMark fs = not (eqb (getD fs 0 0) mark) || ltb 5 (getD fs 1 0)
+unfoldable pub notHeld : List ℕ → Bool
+notHeld fs = not (eqb (getD fs 0 0) mark) || ltb 5 (getD fs 1 0)
 
 -- 1: bytes that no open session has; one whose consist is refused is not open
 unfoldable pub noSession : List ℕ → Bool
-noSession s = not (eqb (length s) 36) || wrongMark (fieldsAt s) || not (isOpen (sessionIn s))
+noSession s = not (eqb (length s) 36) || notHeld (fieldsAt s) || not (isOpen (sessionIn s))
 
 -- the paper's number and values: the refusal, or the session
 abbrev pub answer : Verdict → Session → Answer

@@ -12,7 +12,7 @@ ghost use Prim.Native.Nat.{_≤_};
 ghost use lib.ListN.{length, drop};
 ghost use Rattle.bits.specs.Fields.{split};
 ghost use Rattle.session.specs.Session.{isOpen};
-ghost use Rattle.held.specs.Held.{stateOf, ofFields, bytesOf, wrongMark, readSession, writeSession};
+ghost use Rattle.held.specs.Held.{stateOf, ofFields, bytesOf, notHeld, readSession, writeSession};
 ghost use Rattle.held.specs.Steps.{firstWidths, fieldsFrom, firstWord, secondWord, thirdWord};
 
 const MARK: u64 = 0x4253;
@@ -38,8 +38,8 @@ fn state_of(n: u64) -> State
 }
 
 // Another mark in the first word, or a state of 6 or 7.
-fn wrong_mark(first: u64) -> bool
-    ensures { λ r. ⌜ r ≡ wrongMark (split firstWidths first) ⌝ }
+fn not_held(first: u64) -> bool
+    ensures { λ r. ⌜ r ≡ notHeld (split firstWidths first) ⌝ }
 {
     (first / 0x1_0000_0000_0000 % 0x1_0000 != MARK) | (first / 0x2000_0000_0000 % 8 > 5)
 }
@@ -76,7 +76,7 @@ pub fn read(s: &[u8]) -> Answer
         return Answer::Refused(Refusal::NoSession);
     }
     let first = bits::word(&s[0..8]);
-    if wrong_mark(first) {
+    if not_held(first) {
         return Answer::Refused(Refusal::NoSession);
     }
     let consist::Answer::Accepted(c) = consist::read(&s[20..36]) else {

@@ -11,7 +11,7 @@ use borrow.Author.Tests.{ltb-false, le-ltb}
 use Rattle.hundredths.specs.declared.Reading.the-variants.{Hundredths, Refused}
 use Rattle.hundredths.specs.declared.Rounding.{Rounding}
 use Rattle.hundredths.specs.declared.Rounding.the-variants.{Up, Down}
-use Rattle.hundredths.specs.Reading.{num, den, rounded, hundredthsOf, infinite, belowZero, above, outOfRange, mostSpeed, mostPressure, judged, speedOf, pressureOf}
+use Rattle.hundredths.specs.Reading.{num, den, rounded, hundredthsOf, infinite, belowZero, above, isBad, mostSpeed, mostPressure, judged, speedOf, pressureOf}
 use Rattle.hundredths.proofs.Rounded.{rounded-mono}
 
 -- ---- refused, and accepted
@@ -24,32 +24,32 @@ accepted : (b : Bool) (h : ℕ) {n : ℕ} → judged b h ≡ Hundredths n → (b
 accepted true h e = (cc, cc)
 accepted false h e = (refl, cc)
 
-pub speed-refused : (x : Float) → speedOf x ≡ Refused → outOfRange mostSpeed x ≡ true
+pub speed-refused : (x : Float) → speedOf x ≡ Refused → isBad mostSpeed x ≡ true
 unfolding speedOf
-speed-refused x = refused (outOfRange mostSpeed x) (hundredthsOf Up x)
+speed-refused x = refused (isBad mostSpeed x) (hundredthsOf Up x)
 
-pub speed-accepted : (x : Float) {n : ℕ} → speedOf x ≡ Hundredths n → (outOfRange mostSpeed x ≡ false) × (n ≡ hundredthsOf Up x)
+pub speed-accepted : (x : Float) {n : ℕ} → speedOf x ≡ Hundredths n → (isBad mostSpeed x ≡ false) × (n ≡ hundredthsOf Up x)
 unfolding speedOf
-speed-accepted x e = accepted (outOfRange mostSpeed x) (hundredthsOf Up x) e
+speed-accepted x e = accepted (isBad mostSpeed x) (hundredthsOf Up x) e
 
-pub pressure-refused : (x : Float) → pressureOf x ≡ Refused → outOfRange mostPressure x ≡ true
+pub pressure-refused : (x : Float) → pressureOf x ≡ Refused → isBad mostPressure x ≡ true
 unfolding pressureOf
-pressure-refused x = refused (outOfRange mostPressure x) (hundredthsOf Down x)
+pressure-refused x = refused (isBad mostPressure x) (hundredthsOf Down x)
 
-pub pressure-accepted : (x : Float) {n : ℕ} → pressureOf x ≡ Hundredths n → (outOfRange mostPressure x ≡ false) × (n ≡ hundredthsOf Down x)
+pub pressure-accepted : (x : Float) {n : ℕ} → pressureOf x ≡ Hundredths n → (isBad mostPressure x ≡ false) × (n ≡ hundredthsOf Down x)
 unfolding pressureOf
-pressure-accepted x e = accepted (outOfRange mostPressure x) (hundredthsOf Down x) e
+pressure-accepted x e = accepted (isBad mostPressure x) (hundredthsOf Down x) e
 
 -- ---- its bits
 
-pub no-nan : (limit : ℕ) (x : Float) → outOfRange limit x ≡ false → T (not (isNan x))
-unfolding outOfRange isNan
+pub no-nan : (limit : ℕ) (x : Float) → isBad limit x ≡ false → T (not (isNan x))
+unfolding isBad isNan
 no-nan limit nan ok = absurd (true≢false ok)
 no-nan limit (inf s) ok = tt
 no-nan limit (fin s m e) ok = tt
 
 -- they come back as received
-pub bits-back : (limit bits : ℕ) → bits < 2 ^ 32 → outOfRange limit (ofBits binary32 bits) ≡ false → toBits binary32 (ofBits binary32 bits) ≡ bits
+pub bits-back : (limit bits : ℕ) → bits < 2 ^ 32 → isBad limit (ofBits binary32 bits) ≡ false → toBits binary32 (ofBits binary32 bits) ≡ bits
 bits-back limit bits fit ok = toBits-ofBits binary32 bits fit (no-nan limit (ofBits binary32 bits) ok)
 
 -- ---- its value is at most the limit
@@ -58,16 +58,16 @@ neither : (a b : Bool) → (a || b) ≡ false → (a ≡ false) × (b ≡ false)
 neither true b h = absurd (true≢false h)
 neither false b h = (refl, h)
 
-parts : (limit : ℕ) (x : Float) → outOfRange limit x ≡ false → ((isNan x || infinite x || belowZero x) ≡ false) × (above limit x ≡ false)
-unfolding outOfRange
+parts : (limit : ℕ) (x : Float) → isBad limit x ≡ false → ((isNan x || infinite x || belowZero x) ≡ false) × (above limit x ≡ false)
+unfolding isBad
 parts limit x ok = neither (isNan x || infinite x || belowZero x) (above limit x) ok
 
-pub at-most : (limit : ℕ) (x : Float) → outOfRange limit x ≡ false → num x ≤ limit * den x
+pub at-most : (limit : ℕ) (x : Float) → isBad limit x ≡ false → num x ≤ limit * den x
 at-most limit x ok = ltb-false (limit * den x) (num x) (parts limit x ok .1)
 
 -- what is within a limit is within a higher one
-pub wider : (limit higher : ℕ) (x : Float) → limit ≤ higher → outOfRange limit x ≡ false → outOfRange higher x ≡ false
-unfolding outOfRange
+pub wider : (limit higher : ℕ) (x : Float) → limit ≤ higher → isBad limit x ≡ false → isBad higher x ≡ false
+unfolding isBad
 wider limit higher x h ok =
     simp (parts limit x ok .0, le-ltb (higher * den x) (num x) (le-trans (at-most limit x ok) (mul-le-mul-right (den x) h)))
 
@@ -82,19 +82,10 @@ whole : (r : Rounding) (q : ℕ) → rounded r q 1 ≡ q
 whole Up q = simp (add-zero, div-one)
 whole Down q = div-one q
 
-pub hundredths-most : (r : Rounding) (limit : ℕ) (x : Float) → outOfRange limit x ≡ false → hundredthsOf r x ≤ 100 * limit
+pub hundredths-most : (r : Rounding) (limit : ℕ) (x : Float) → isBad limit x ≡ false → hundredthsOf r x ≤ 100 * limit
 unfolding hundredthsOf
 hundredths-most r limit x ok =
     le-trans
     (rounded-mono r (100 * num x) (den x) (100 * limit) 1 (den-pos x) (lit< tt)
     (le-trans (le-of-eq (mul-one (100 * num x))) (le-trans (mul-le-mul-left 100 (at-most limit x ok)) (le-of-eq (sym (mul-assoc 100 limit (den x)))))))
     (le-of-eq (whole r (100 * limit)))
-
-most : (r : Rounding) (limit : ℕ) (x : Float) {n : ℕ} → (outOfRange limit x ≡ false) × (n ≡ hundredthsOf r x) → n ≤ 100 * limit
-most r limit x a = le-trans (le-of-eq (a .1)) (hundredths-most r limit x (a .0))
-
-pub speed-most : (x : Float) {n : ℕ} → speedOf x ≡ Hundredths n → n ≤ 10000
-speed-most x e = most Up mostSpeed x (speed-accepted x e)
-
-pub pressure-most : (x : Float) {n : ℕ} → pressureOf x ≡ Hundredths n → n ≤ 16000
-pressure-most x e = most Down mostPressure x (pressure-accepted x e)

@@ -1,11 +1,11 @@
 -- The figures hold: both sides of each compute to the same. Assumes nothing.
 use mathlib.Core.Path.{refl}
 use lib.Ieee.{isNan, ofBits}
-use Rattle.hundredths.specs.Reading.{hundredthsOf, outOfRange, speedOf, pressureOf}
+use Rattle.hundredths.specs.Reading.{hundredthsOf, isBad, speedOf, pressureOf}
 use Rattle.hundredths.specs.Figures.{Figures}
 
 pub figures : Figures
-unfolding ofBits isNan hundredthsOf outOfRange speedOf pressureOf
+unfolding ofBits isNan hundredthsOf isBad speedOf pressureOf
 figures =
     record {
       pressure-69 = refl;

@@ -10,7 +10,7 @@ use lib.Dec.{ltb, eqb}
 use lib.Ieee.{Float, nan, inf, fin, up, down, lt, eq, le, isNan}
 use lib.Ieee.Fits.{up-pos}
 use borrow.Author.Tests.{not-true, not-false, ltb-true, ltb-false, lt-ltb, le-ltb, eq-eqb, ne-eqb}
-use Rattle.hundredths.specs.Reading.{outOfRange}
+use Rattle.hundredths.specs.Reading.{isBad}
 
 -- `<=`, as the float comparison says it of two sizes
 not-above : (a b : ℕ) → (ltb a b || (eqb a b && true)) ≡ not (ltb b a)
@@ -34,8 +34,8 @@ whole m k = fin false m (pos k)
 
 -- the limit's float is M * 2 ^ K
 module _ (limit M K : ℕ) (is : M * 2 ^ K ≡ limit) where
-  in-range : (x : Float) → (le nought x && le x (whole M K)) ≡ not (outOfRange limit x)
-  unfolding le lt eq outOfRange isNan
+  in-range : (x : Float) → (le nought x && le x (whole M K)) ≡ not (isBad limit x)
+  unfolding le lt eq isBad isNan
   in-range nan = refl
   in-range (inf true) = refl
   in-range (inf false) = refl
@@ -47,8 +47,8 @@ module _ (limit M K : ℕ) (is : M * 2 ^ K ≡ limit) where
       let some = mul-pos (zero-lt-suc m) (up-pos e) in
       simp (mul-one, zero-mul, ne-eqb 0 (suc m * up e) (ne-of-lt some), lt-ltb 0 (suc m * up e) some)
 
-  pub taken : (x : Float) → (le nought x && le x (whole M K)) ≡ true → outOfRange limit x ≡ false
-  taken x h = not-true (outOfRange limit x) (sym (in-range x) ∙ h)
+  pub taken : (x : Float) → (le nought x && le x (whole M K)) ≡ true → isBad limit x ≡ false
+  taken x h = not-true (isBad limit x) (sym (in-range x) ∙ h)
 
-  pub left : (x : Float) → (le nought x && le x (whole M K)) ≡ false → outOfRange limit x ≡ true
-  left x h = not-false (outOfRange limit x) (sym (in-range x) ∙ h)
+  pub left : (x : Float) → (le nought x && le x (whole M K)) ≡ false → isBad limit x ≡ true
+  left x h = not-false (isBad limit x) (sym (in-range x) ∙ h)

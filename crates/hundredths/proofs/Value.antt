@@ -9,7 +9,7 @@ use lib.Pow.{pow-add, pow-pos, pow-mono}
 use lib.Ieee.{Float, nan, inf, fin, binary32, isNan, odd, ofFields, ofBits}
 use lib.Ieee.Exact.{HasValue, odd-sign}
 use Rattle.hundredths.specs.Exact.{Exact}
-use Rattle.hundredths.specs.Reading.{num, den, outOfRange, mostPressure}
+use Rattle.hundredths.specs.Reading.{num, den, isBad, mostPressure}
 use Rattle.hundredths.proofs.Accepted.{at-most, den-pos}
 
 -- the size of x is q * 2 ^ k / 2 ^ 149
@@ -33,18 +33,18 @@ odd-scaled s q k = go (odd 24 s q k 149) (odd-sign 24 s q k 149)
     go (inf t) v = absurd v
     go (fin t m e) v = v .1
 
-fields-scaled : (limit : ℕ) (s : Bool) (f t : ℕ) → outOfRange limit (ofFields binary32 s f t) ≡ false → Scaled (ofFields binary32 s f t) (wholeOf f t) (exponentOf f)
-unfolding ofFields outOfRange isNan
+fields-scaled : (limit : ℕ) (s : Bool) (f t : ℕ) → isBad limit (ofFields binary32 s f t) ≡ false → Scaled (ofFields binary32 s f t) (wholeOf f t) (exponentOf f)
+unfolding ofFields isBad isNan
 fields-scaled limit s zero t ok = odd-scaled s t 0
 fields-scaled limit s (suc f) t ok = go (eqb (suc f) 255) (eqb t 0) ok
   where
-    go : (top none : Bool) → let x = cond top (cond none (inf s) nan) (odd 24 s (0x80_0000 + t) f 149) in outOfRange limit x ≡ false → Scaled x (0x80_0000 + t) f
+    go : (top none : Bool) → let x = cond top (cond none (inf s) nan) (odd 24 s (0x80_0000 + t) f 149) in isBad limit x ≡ false → Scaled x (0x80_0000 + t) f
     go true true h = absurd (true≢false h)
     go true false h = absurd (true≢false h)
     go false none h = odd-scaled s (0x80_0000 + t) f
 
 -- b is a pattern of the accepted reading x
-module _ (b : ℕ) {x : Float} (pattern : ofBits binary32 b ≡ x) (ok : outOfRange mostPressure x ≡ false) where
+module _ (b : ℕ) {x : Float} (pattern : ofBits binary32 b ≡ x) (ok : isBad mostPressure x ≡ false) where
   abbrev field : ℕ
   field = b % 0x8000_0000 / 0x80_0000
 
@@ -58,7 +58,7 @@ module _ (b : ℕ) {x : Float} (pattern : ofBits binary32 b ≡ x) (ok : outOfRa
   unfolding ofBits
   scaled =
       subst (λ (y : Float). Scaled y (wholeOf field tail) (exponentOf field)) pattern
-      (fields-scaled mostPressure (leb 0x8000_0000 b) field tail (subst (λ (y : Float). outOfRange mostPressure y ≡ false) (sym pattern) ok))
+      (fields-scaled mostPressure (leb 0x8000_0000 b) field tail (subst (λ (y : Float). isBad mostPressure y ≡ false) (sym pattern) ok))
 
   -- a field of 135 is 2 ^ 8 or more
   too-large : (f : ℕ) → 135 ≤ f → By-field f → ⊥

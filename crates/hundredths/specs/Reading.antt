@@ -49,8 +49,8 @@ abbrev pub above : ℕ → Float → Bool
 above limit x = ltb (limit * den x) (num x)
 
 -- No. 8: "a present reading is NaN, infinite, below zero," or above its limit
-unfoldable pub outOfRange : ℕ → Float → Bool
-outOfRange limit x = isNan x || infinite x || belowZero x || above limit x
+unfoldable pub isBad : ℕ → Float → Bool
+isBad limit x = isNan x || infinite x || belowZero x || above limit x
 
 -- "speed above 100 or pressure above 160"
 abbrev pub mostSpeed : ℕ
@@ -65,8 +65,8 @@ judged false n = Hundredths n
 
 -- "Speed becomes 100 times its exact value rounded up"
 unfoldable pub speedOf : Float → Reading
-speedOf x = judged (outOfRange mostSpeed x) (hundredthsOf Up x)
+speedOf x = judged (isBad mostSpeed x) (hundredthsOf Up x)
 
 -- "pressure 100 times its exact value rounded down"
 unfoldable pub pressureOf : Float → Reading
-pressureOf x = judged (outOfRange mostPressure x) (hundredthsOf Down x)
+pressureOf x = judged (isBad mostPressure x) (hundredthsOf Down x)

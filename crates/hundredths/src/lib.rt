@@ -4,7 +4,7 @@ ghost use mathlib.Core.Bool.{false};
 ghost use Prim.Native.Nat.{_/_, _^_};
 ghost use lib.Ieee.{binary32, ofBits, toBits};
 ghost use Rattle.hundredths.specs.Exact.{Exact};
-ghost use Rattle.hundredths.specs.Reading.{rounded, hundredthsOf, outOfRange, mostPressure, speedOf, pressureOf};
+ghost use Rattle.hundredths.specs.Reading.{rounded, hundredthsOf, isBad, mostPressure, speedOf, pressureOf};
 
 const MOST_SPEED: f32 = 100.0;
 
@@ -78,7 +78,7 @@ pub fn pressure(x: f32) -> Reading
 
 // The pressure's limit is the higher of the two.
 fn hundredths(x: f32, rounding: Rounding) -> u16
-    requires { ⌜ outOfRange mostPressure x ≡ false ⌝ }
+    requires { ⌜ isBad mostPressure x ≡ false ⌝ }
     ensures { λ r. ⌜ r ≡ hundredthsOf rounding x ⌝ }
 {
     let value = exact(x);
@@ -87,7 +87,7 @@ fn hundredths(x: f32, rounding: Rounding) -> u16
 
 // The field f counts 2 ^ (f - 150). A field of 0 stands for no leading digit, and counts as 1.
 fn exact(x: f32) -> Fraction
-    requires { ⌜ outOfRange mostPressure x ≡ false ⌝ }
+    requires { ⌜ isBad mostPressure x ≡ false ⌝ }
     ensures { λ r. ⌜ Exact x r ⌝ }
 {
     let bits = bits_of(x);

@@ -14,6 +14,8 @@ use Rattle.refusal.specs.declared.Refusal.the-variants.{NoSession, NoRoom}
 use Rattle.refusal.specs.declared.Verdict.{Verdict}
 use Rattle.refusal.specs.declared.Verdict.the-variants.{Accepted, Refused}
 use Rattle.refusal.proofs.Order.{given, passed, last-passed, append-passed, append-given}
+use Rattle.refusal.proofs.Exactly.{lowest-refused, lowest-accepted}
+use Rattle.refusal.proofs.Numbers.{one-first}
 use Rattle.consist.specs.Consist.{consistIn, readRules, readConsist}
 use Rattle.consist.specs.Consist as consist
 use Rattle.decision.specs.Decision as decision
@@ -30,7 +32,6 @@ use Rattle.held.specs.Held.{sessionIn, bytesOf, noSession, answer, readSession,
 use Rattle.held.proofs.Answers.{read-inv, write-accepted}
 use Rattle.mount.specs.Mount.{openRules, Sampled, callBytes, sampledBy, sampleBytes}
 use Rattle.mount.specs.Laws.{sampleRules}
-use Rattle.mount.proofs.Told.{lowest-refused, lowest-accepted, one-first}
 
 -- ---- opening
 

@@ -10,7 +10,8 @@ use Rattle.refusal.specs.Written.{written}
 use Rattle.refusal.specs.Exactly.{Exactly}
 use Rattle.refusal.specs.declared.Verdict.{Verdict}
 use Rattle.refusal.specs.declared.Verdict.the-variants.{Accepted, Refused}
-use Rattle.refusal.proofs.Exactly.{exactly}
+use Rattle.refusal.proofs.Exactly.{exactly, written-verdict}
+use Rattle.refusal.proofs.Numbers.{verdict-refused, verdict-accepted}
 use Rattle.consist.specs.Consist as consist
 use Rattle.profile.specs.Profile as profile
 use Rattle.profile.proofs.Answers as profile-answers
@@ -21,7 +22,6 @@ use Rattle.decision.specs.Decision.{decisionIn}
 use Rattle.mount.specs.Told.{told}
 use Rattle.mount.specs.Records.{consistWritten, consistJudged, profileWritten, profileJudged, targetsWritten, targetsJudged, sampleWriteRules, sampleWritten, sampleJudged, numbersOf, decisionRules, decisionRead}
 use Rattle.mount.specs.Exactly.{Tells, ToldExactly, RecordsExactly}
-use Rattle.mount.proofs.Told.{verdict-refused, verdict-accepted}
 
 pub tells : (rules : List Rule) → Tells rules (numberOfVerdict (lowest rules))
 unfolding Exactly
@@ -31,8 +31,7 @@ tells rules = record {
 }
 
 pub told-number : (v : Verdict) (bytes out : List ℕ) → told (written v bytes out) .0 ≡ numberOfVerdict v
-told-number Accepted bytes out = refl
-told-number (Refused r) bytes out = refl
+told-number v bytes out = ap numberOfVerdict (written-verdict v bytes out)
 
 pub written-past : (n : ℕ) (v : Verdict) (bytes out : List ℕ) → length bytes ≡ n → drop n (written v bytes out .1) ≡ drop n out
 written-past n Accepted bytes out h = drop-at bytes _ n h ∙ ap (λ (m : ℕ). drop m out) h

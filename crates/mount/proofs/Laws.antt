@@ -11,6 +11,7 @@ use Rattle.refusal.specs.Written.{noRoom, written}
 use Rattle.refusal.specs.declared.Refusal.the-variants.{NoRoom}
 use Rattle.refusal.specs.declared.Verdict.{Verdict}
 use Rattle.refusal.proofs.Order.{accepted, append-accepted}
+use Rattle.refusal.proofs.Numbers.{verdict-refused, verdict-accepted}
 use Rattle.consist.specs.Consist.{consistIn, readRules}
 use Rattle.decision.specs.declared.Decision.{Decision}
 use Rattle.decision.specs.Decision as decision
@@ -28,7 +29,6 @@ use Rattle.mount.specs.Mount.{openRules, openBytes, Sampled, isOpenBytes
 use Rattle.mount.specs.Laws.{OpenExactly, sampleRules, SampleExactly, OpensOpen, StaysOpen}
 use Rattle.mount.specs.Exactly.{Tells}
 use Rattle.mount.proofs.Exactly.{tells, told-number, written-past, told-exactly}
-use Rattle.mount.proofs.Told.{verdict-refused, verdict-accepted}
 use Rattle.mount.proofs.Calls.{opened-open, one-held, one-read, session-length, leaves, by-rules}
 
 decision-length : (d : Decision) → length (decision.bytesOf d) ≡ 8

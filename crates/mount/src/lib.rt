@@ -1,6 +1,6 @@
 // The library for C: the customer's calls with the session in lent bytes, and the records. A slice is a pointer, then a length;
 // an answer is the refusal's number, 0 for none.
-mod records;
+pub mod records;
 
 use refusal::Verdict;
 ghost use mathlib.Core.Path.{_≡_};

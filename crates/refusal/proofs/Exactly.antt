@@ -2,8 +2,8 @@
 use mathlib.Core.Path.{_≡_, refl, sym, ap, _∙_, subst}
 use mathlib.Core.Bool.{Bool, true, false, cond, false≢true}
 use mathlib.Core.List.{List, [], _∷_}
-use mathlib.Core.Logic.{inl, inr, ⊎-elim}
-use Prim.Native.Nat.{ℕ}
+use mathlib.Core.Logic.{_↔_, inl, inr, ⊎-elim}
+use Prim.Native.Nat.{ℕ, zero, suc, _≤_}
 use native.Mathlib.Nat.{le-trans, le-of-lt, le-of-eq, le-antisymm}
 use native.Mathlib.Omega.{arith}
 use lib.Dec.{leb}
@@ -41,6 +41,15 @@ in-table NoRoom = refl
 -- each number is one refusal's
 pub number-tells : (r s : Refusal) → numberOf r ≡ numberOf s → r ≡ s
 number-tells r s h = sym (in-table r) ∙ ap (λ (n : ℕ). getD table n NoSession) h ∙ in-table s
+
+-- and none is 0
+pub above-zero : (r : Refusal) → 1 ≤ numberOf r
+unfolding table
+above-zero r = by (numberOf r) refl
+  where
+    by : (n : ℕ) → numberOf r ≡ n → 1 ≤ n
+    by zero e = let one = ap numberOf (sym (in-table r) ∙ ap (λ (n : ℕ). getD table n NoSession) e) in absurd (omega arith)
+    by (suc n) e = omega arith
 
 -- what a verdict says of the rules that it was found from
 abbrev Said : List Rule → Verdict → Type 0
@@ -102,9 +111,23 @@ exactly rules = record {
   accepted = (λ e. subst (Said rules) e (said rules), λ n. is-accepted rules n (lowest rules) (said rules));
 }
 
+-- an answer that refuses exactly as the rules do
+module _ {A : Type 0} (rules : List Rule) (refused : Refusal → A) (answer : A) (exact : (r : Refusal) → (answer ≡ refused r) ↔ Lowest rules r) where
+  pub lowest-refused : (r : Refusal) → answer ≡ refused r → lowest rules ≡ Refused r
+  unfolding Exactly
+  lowest-refused r h = exactly rules .refused r .1 (exact r .0 h)
+
+  pub lowest-accepted : ((r : Refusal) → answer ≡ refused r → ⊥) → lowest rules ≡ Accepted
+  unfolding Exactly
+  lowest-accepted none = go (lowest rules) refl
+    where
+      go : (v : Verdict) → lowest rules ≡ v → lowest rules ≡ Accepted
+      go Accepted e = e
+      go (Refused r) e = absurd (none r (exact r .1 (exactly rules .refused r .0 e)))
+
 -- ---- of a writer
 
-written-verdict : (v : Verdict) (bytes out : List ℕ) → written v bytes out .0 ≡ v
+pub written-verdict : (v : Verdict) (bytes out : List ℕ) → written v bytes out .0 ≡ v
 written-verdict Accepted bytes out = refl
 written-verdict (Refused r) bytes out = refl
 

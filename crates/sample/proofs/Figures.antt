@@ -1,13 +1,13 @@
 -- The sample's figures, computed. Assumes nothing.
 use mathlib.Core.Path.{refl}
 use lib.Ieee.{isNan, ofBits, toBits}
-use Rattle.hundredths.specs.Reading.{hundredthsOf, outOfRange}
+use Rattle.hundredths.specs.Reading.{hundredthsOf, isBad}
 use Rattle.refusal.specs.Lowest.{lowest}
 use Rattle.sample.specs.Sample.{rawIn, bytesOf, wrongLength, wrongMark, badReading, layOut, judgeSample, readSample}
 use Rattle.sample.specs.Figures.{Figures}
 
 pub figures : Figures
-unfolding rawIn bytesOf wrongLength wrongMark badReading layOut judgeSample readSample lowest hundredthsOf outOfRange toBits ofBits isNan
+unfolding rawIn bytesOf wrongLength wrongMark badReading layOut judgeSample readSample lowest hundredthsOf isBad toBits ofBits isNan
 figures = record {
   written = refl;
   read = refl;

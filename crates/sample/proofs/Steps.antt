@@ -8,7 +8,7 @@ use lib.Dec.{leb, eqb, lit<}
 use borrow.Author.Tests.{eqb-true, leb-false, lt-leb, not-false}
 use Rattle.bits.specs.Bytes.{num, fieldsIn}
 use Rattle.bits.proofs.Fields.{split-fit}
-use Rattle.hundredths.specs.Reading.{outOfRange, mostSpeed, mostPressure}
+use Rattle.hundredths.specs.Reading.{isBad, mostSpeed, mostPressure}
 use Rattle.bits.proofs.Ranges.{neither}
 use Rattle.sample.specs.declared.Rear.{Rear}
 use Rattle.sample.specs.declared.Rear.the-variants.{Present, Lost}
@@ -40,11 +40,11 @@ bit-lt Lost = lit< tt
 
 -- one bad reading is enough
 module _ (raw : RawSample) where
-  pub bad-speed : outOfRange mostSpeed (raw .speed) ≡ true → badReading raw ≡ true
+  pub bad-speed : isBad mostSpeed (raw .speed) ≡ true → badReading raw ≡ true
   unfolding badReading
-  bad-speed h = ap (λ (b : Bool). b || outOfRange mostPressure (raw .front) || badRear (raw .rear)) h
+  bad-speed h = ap (λ (b : Bool). b || isBad mostPressure (raw .front) || badRear (raw .rear)) h
 
-  pub bad-front : outOfRange mostPressure (raw .front) ≡ true → badReading raw ≡ true
+  pub bad-front : isBad mostPressure (raw .front) ≡ true → badReading raw ≡ true
   unfolding badReading
   bad-front h = simp (h, or-true, true-or)
 
@@ -52,16 +52,16 @@ module _ (raw : RawSample) where
   unfolding badReading
   bad-rear h = simp (h, or-true)
 
-  pub none-bad : outOfRange mostSpeed (raw .speed) ≡ false → outOfRange mostPressure (raw .front) ≡ false → badRear (raw .rear) ≡ false → badReading raw ≡ false
+  pub none-bad : isBad mostSpeed (raw .speed) ≡ false → isBad mostPressure (raw .front) ≡ false → badRear (raw .rear) ≡ false → badReading raw ≡ false
   unfolding badReading
   none-bad s f r = simp (s, f, r)
 
   pub each-good : badReading raw ≡ false
-      → (outOfRange mostSpeed (raw .speed) ≡ false) × (outOfRange mostPressure (raw .front) ≡ false) × (badRear (raw .rear) ≡ false)
+      → (isBad mostSpeed (raw .speed) ≡ false) × (isBad mostPressure (raw .front) ≡ false) × (badRear (raw .rear) ≡ false)
   unfolding badReading
   each-good h =
-      let n = neither (outOfRange mostSpeed (raw .speed) || outOfRange mostPressure (raw .front)) (badRear (raw .rear)) h in
-      let m = neither (outOfRange mostSpeed (raw .speed)) (outOfRange mostPressure (raw .front)) (n .0) in
+      let n = neither (isBad mostSpeed (raw .speed) || isBad mostPressure (raw .front)) (badRear (raw .rear)) h in
+      let m = neither (isBad mostSpeed (raw .speed)) (isBad mostPressure (raw .front)) (n .0) in
       (m .0, m .1, n .1)
 
 -- ---- a step's answer

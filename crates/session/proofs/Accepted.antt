@@ -18,6 +18,7 @@ use Rattle.track.specs.Track.{layOf}
 use Rattle.walk.specs.declared.Prediction.{Prediction}
 use Rattle.walk.specs.Curve.{penaltyCurve}
 use Rattle.walk.specs.Range.{Walkable}
+use Rattle.walk.proofs.Bounds.{penalty-braking}
 use Rattle.judge.specs.Judge.{causeOf}
 use Rattle.session.specs.declared.Session.{Session}
 use Rattle.session.specs.declared.Listed.{Listed}
@@ -42,10 +43,9 @@ predictable x m p h = record {
 
 -- so it asks no more than is known
 pub walkable : (c : Consist) (k : Brake) (m : Sample) (p : List ℕ) → Predictable c k m p → Walkable c (penaltyCurve c (k .a) (k .b)) (layOf p) (m .head)
-unfolding penaltyCurve
 walkable c k m p h = record {
   rated = omega arith;
-  curve = record { den = omega arith; num = omega arith; most = omega arith; gain = omega arith; base = omega arith };
+  curve = penalty-braking c (k .a) (k .b) (omega arith) (omega arith) (omega arith) (omega arith);
   track = h .track;
   head = h .head;
 }

@@ -43,8 +43,8 @@ use Rattle.judge.proofs.Causes.{cause-most}
 use Rattle.session.specs.declared.Session.{Session}
 use Rattle.session.specs.declared.Entry.the-variants.{Admitted, Refused}
 use Rattle.session.specs.Session.{isOpen}
-use Rattle.session.specs.Sample.{sampleIn, wrongTime, notCovered, lastStart, rulesRaw, rulesBefore, predictionOf, prediction, calledOf, causeAfter, brakeAfter, locationsIn, speedsIn, decisionOf}
-use Rattle.session.specs.Steps.{entry, admitOf, Ready}
+use Rattle.session.specs.Sample.{sampleIn, wrongTime, notCovered, lastStart, predictionOf, prediction, calledOf, causeAfter, brakeAfter, decisionOf}
+use Rattle.session.specs.Steps.{rulesRaw, rulesBefore, entry, admitOf, Ready}
 
 -- ---- what an admission tells
 
@@ -93,7 +93,7 @@ unfolding causeAfter calledOf
 cause-within x m p t h = go (eqb (x .cause) 0)
   where
     go : (b : Bool) → cond b (calledOf x m p t) (x .cause) ≤ 8
-    go true = cause-most (x .consist .offset) (m .head) (m .speed) (targets.count t) (locationsIn t) (speedsIn t) (prediction x m p t .places)
+    go true = cause-most (x .consist .offset) (m .head) (m .speed) (targets.count t) (targets.locationsIn t 8) (targets.speedsIn t 8) (prediction x m p t .places)
     go false = h
 
 never-at-odds : (cause : ℕ) → not (Bool·beq (not (eqb cause 0)) (not (eqb cause 0))) ≡ false

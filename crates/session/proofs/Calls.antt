@@ -18,7 +18,8 @@ use Rattle.decision.specs.Decision as decision
 use Rattle.decision.proofs.Answers.{write-room, write-accepted}
 use Rattle.session.specs.declared.Session.{Session}
 use Rattle.session.specs.Session.{refusedWith}
-use Rattle.session.specs.Sample.{sampleIn, prediction, rulesBefore, rules, decisionOf, sessionAfter, kept, sampleCall}
+use Rattle.session.specs.Sample.{sampleIn, prediction, rules, decisionOf, sessionAfter, kept, sampleCall}
+use Rattle.session.specs.Steps.{rulesBefore}
 
 module _ (x : Session) (s p t out : List ℕ) where
   -- the call by its verdict

@@ -24,5 +24,5 @@ use Rattle.session.specs.Open.{openOf}
 use Rattle.session.specs.Sample.{wrongTime, notCovered, predictionOf, calledOf, causeAfter, sampleCall}
 
 unfoldable pub computing : Unit {0}
-unfolding ofBits lowest noRoom floorDiv ceilDiv digits rootOf isOpen openOf wrongTime notCovered predictionOf calledOf causeAfter sampleCall reading.hundredthsOf reading.outOfRange consist.consistIn consist.wrongLength consist.inRange consist.tooLight consist.isSound consist.readConsist profile.counted profile.inRange profile.good profile.ends profile.kept profile.recordAt profile.segmentAt profile.spareZero profile.keptIn targets.counted targets.inRange targets.good targets.kept targets.recordAt targets.targetAt targets.keptIn sample.rawIn sample.wrongLength sample.wrongMark sample.badReading decision.decisionIn decision.bytesOf decision.wrongLength decision.wrongMark decision.outOfRange decision.readDecision readings.elapsedOf readings.rateOf readings.rearOf readings.nominalOf readings.readingOf readings.application readings.release readings.emergency rules.startEmergency rules.startService rules.startApplying rules.startCharging rules.fallInService rules.fallInEmergency rules.inCharged rules.recharged rules.inCharging rules.fallOrHold rules.inApplyingService rules.inHoldingService rules.inApplyingEmergency rules.inHoldingEmergency rules.updateOf sound.isSound track.layOf track.feet track.gradeFeet track.curveFeet track.gradeUnder track.curveUnder curve.dropAt curve.cylinderAt curve.forceAt curve.penaltyCurve step.opposing step.loss step.stepTime step.stepOf walk.tooFast walk.walkTo walk.placeFor walk.predictOf judge.isJudged judge.offsetFor judge.isCalled judge.firstFrom judge.causeOf isNan
+unfolding ofBits lowest noRoom floorDiv ceilDiv digits rootOf isOpen openOf wrongTime notCovered predictionOf calledOf causeAfter sampleCall reading.hundredthsOf reading.isBad consist.consistIn consist.wrongLength consist.inRange consist.tooLight consist.isSound consist.readConsist profile.counted profile.inRange profile.good profile.ends profile.kept profile.recordAt profile.segmentAt profile.spareZero profile.keptIn targets.counted targets.inRange targets.good targets.kept targets.recordAt targets.targetAt targets.keptIn sample.rawIn sample.wrongLength sample.wrongMark sample.badReading decision.decisionIn decision.bytesOf decision.wrongLength decision.wrongMark decision.outOfRange decision.readDecision readings.elapsedOf readings.rateOf readings.rearOf readings.nominalOf readings.readingOf readings.application readings.release readings.emergency rules.startEmergency rules.startService rules.startApplying rules.startCharging rules.fallInService rules.fallInEmergency rules.inCharged rules.recharged rules.inCharging rules.fallOrHold rules.inApplyingService rules.inHoldingService rules.inApplyingEmergency rules.inHoldingEmergency rules.updateOf sound.isSound track.layOf track.feet track.gradeFeet track.curveFeet track.gradeUnder track.curveUnder curve.dropAt curve.cylinderAt curve.forceAt curve.penaltyCurve step.opposing step.loss step.stepTime step.stepOf walk.tooFast walk.walkTo walk.placeFor walk.predictOf judge.isJudged judge.offsetFor judge.isCalled judge.firstFrom judge.causeOf isNan
 computing = tt

@@ -29,8 +29,9 @@ use Rattle.brake.proofs.Tested as brake-tested
 use Rattle.session.specs.declared.Session.{Session}
 use Rattle.session.specs.Session.{isOpen}
 use Rattle.session.specs.Open.{openedBy, openOf}
-use Rattle.session.specs.Sample.{sampleIn, causeAfter, sessionAfter, rulesBefore, rules, kept, sampleCall}
-use Rattle.session.specs.Laws.{OpenExactly, SampleExactly, OpensOpen, StaysOpen, afterCalls, PenaltyStands}
+use Rattle.session.specs.Sample.{sampleIn, causeAfter, sessionAfter, rules, kept, sampleCall}
+use Rattle.session.specs.Steps.{rulesBefore}
+use Rattle.session.specs.Laws.{OpenExactly, SampleExactly, OpensOpen, StaysOpen, afterSamples, CauseStands}
 use Rattle.session.proofs.Accepted.{predictable}
 use Rattle.session.proofs.Admitted.{is-opened, ready, cause-within}
 
@@ -93,16 +94,16 @@ stays-open x s p t out h =
 
 -- ---- the penalty
 
-cause-stands : (x : Session) (v : Verdict) (s p t : List ℕ) → 0 < x .cause → kept v x (sessionAfter x (sampleIn s) p t) .cause ≡ x .cause
+cause-kept : (x : Session) (v : Verdict) (s p t : List ℕ) → 0 < x .cause → kept v x (sessionAfter x (sampleIn s) p t) .cause ≡ x .cause
 unfolding causeAfter
-cause-stands x Accepted s p t h =
+cause-kept x Accepted s p t h =
     let n : x .cause ≡ 0 → ⊥ = λ e. omega arith in
     rw (ne-eqb (x .cause) 0 n)
-cause-stands x (Refused r) s p t h = refl
+cause-kept x (Refused r) s p t h = refl
 
-pub penalty-stands : PenaltyStands
-unfolding PenaltyStands afterCalls sampleCall
-penalty-stands x [] h = refl
-penalty-stands x (l ∷ ls) h =
-    let e = cause-stands x (lowest (rules x (l .sample) (l .profile) (l .targets) (l .out))) (l .sample) (l .profile) (l .targets) h in
-    penalty-stands _ ls (subst (λ (n : ℕ). 0 < n) (sym e) h) ∙ e
+pub cause-stands : CauseStands
+unfolding CauseStands afterSamples sampleCall
+cause-stands x [] h = refl
+cause-stands x (l ∷ ls) h =
+    let e = cause-kept x (lowest (rules x (l .sample) (l .profile) (l .targets) (l .out))) (l .sample) (l .profile) (l .targets) h in
+    cause-stands _ ls (subst (λ (n : ℕ). 0 < n) (sym e) h) ∙ e

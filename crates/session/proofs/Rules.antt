@@ -24,8 +24,8 @@ use Rattle.sample.specs.Sample as sample
 use Rattle.session.specs.declared.Session.{Session}
 use Rattle.session.specs.declared.Entry.the-variants.{Admitted, Refused}
 use Rattle.session.specs.Session.{isOpen}
-use Rattle.session.specs.Sample.{sampleIn, wrongTime, notCovered, rulesRaw}
-use Rattle.session.specs.Steps.{entry, admitRaw, admitOf}
+use Rattle.session.specs.Sample.{sampleIn, wrongTime, notCovered}
+use Rattle.session.specs.Steps.{rulesRaw, entry, admitRaw, admitOf}
 
 -- ---- what the judges of the profile and the targets tell
 

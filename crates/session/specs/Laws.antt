@@ -49,9 +49,9 @@ pub record Lent : Type 0 where
   pub out : List ℕ
 
 -- the session after a list of calls
-unfoldable pub afterCalls : Session → List Lent → Session
-afterCalls x [] = x
-afterCalls x (l ∷ ls) = afterCalls (sampleCall x (l .sample) (l .profile) (l .targets) (l .out) .0 .session) ls
+unfoldable pub afterSamples : Session → List Lent → Session
+afterSamples x [] = x
+afterSamples x (l ∷ ls) = afterSamples (sampleCall x (l .sample) (l .profile) (l .targets) (l .out) .0 .session) ls
 
-unfoldable pub PenaltyStands : Type 0
-PenaltyStands = (x : Session) (ls : List Lent) → 0 < x .cause → afterCalls x ls .cause ≡ x .cause
+unfoldable pub CauseStands : Type 0
+CauseStands = (x : Session) (ls : List Lent) → 0 < x .cause → afterSamples x ls .cause ≡ x .cause

@@ -11,7 +11,6 @@ use Rattle.refusal.specs.declared.Verdict.the-variants as verdict
 use Rattle.consist.specs.declared.Consist.{Consist}
 use Rattle.profile.specs.Profile as profile
 use Rattle.targets.specs.Targets as targets
-use Rattle.sample.specs.declared.RawSample.{RawSample}
 use Rattle.sample.specs.declared.Sample.{Sample}
 use Rattle.sample.specs.Sample as sample
 use Rattle.decision.specs.declared.Decision.{Decision}
@@ -19,7 +18,6 @@ use Rattle.decision.specs.Decision as decision
 use Rattle.brake.specs.declared.Brake.{Brake}
 use Rattle.brake.specs.State.{stateNumber}
 use Rattle.brake.specs.Rules.{updateOf}
-use Rattle.bits.specs.Tables.{upTo}
 use Rattle.track.specs.Track.{layOf}
 use Rattle.walk.specs.declared.Prediction.{Prediction}
 use Rattle.walk.specs.Curve.{forceAt, penaltyCurve}
@@ -48,6 +46,7 @@ wrongTime x m = x .brake .sampled && not (leb (x .brake .«last_time» + 1) (m .
 abbrev pub lastStart : List ℕ → ℕ
 lastStart p = profile.segmentAt p (profile.count p - 1) .start
 
+-- "Head may move back.": no rule reads the last head.
 -- 10: "head less than train length, or profile not covering head minus length to head plus 32,768"
 unfoldable pub notCovered : Consist → List ℕ → Sample → Bool
 notCovered c p m =
@@ -61,24 +60,18 @@ notCovered c p m =
 abbrev pub brakeAfter : Session → Sample → Brake
 brakeAfter x m = updateOf (x .consist) (x .brake) (m .time) (m .front) (m .rear)
 
-abbrev pub speedsIn : List ℕ → List ℕ
-speedsIn t = upTo 8 (λ k. targets.targetAt t k .speed)
-
-abbrev pub locationsIn : List ℕ → List ℕ
-locationsIn t = upTo 8 (λ k. targets.targetAt t k .location)
-
 -- "It starts after the update, with A, B and clock t = 0"
 unfoldable pub predictionOf : Consist → Brake → Sample → List ℕ → List ℕ → Prediction
 predictionOf c k m p speeds =
     predictOf c (forceAt (c .rated) (penaltyCurve c (k .a) (k .b))) (groundOf (layOf p) (c .length)) (m .head) (m .speed) speeds
 
 abbrev pub prediction : Session → Sample → List ℕ → List ℕ → Prediction
-prediction x m p t = predictionOf (x .consist) (brakeAfter x m) m p (speedsIn t)
+prediction x m p t = predictionOf (x .consist) (brakeAfter x m) m p (targets.speedsIn t 8)
 
 -- the cause that this prediction calls for, 0 for none
 unfoldable pub calledOf : Session → Sample → List ℕ → List ℕ → ℕ
 calledOf x m p t =
-    causeOf (x .consist .offset) (m .head) (m .speed) (targets.count t) (locationsIn t) (speedsIn t) (prediction x m p t .places)
+    causeOf (x .consist .offset) (m .head) (m .speed) (targets.count t) (targets.locationsIn t 8) (targets.speedsIn t 8) (prediction x m p t .places)
 
 -- "The cause is the first such target and, like the penalty, stays."
 unfoldable pub causeAfter : Session → Sample → List ℕ → List ℕ → ℕ
@@ -103,21 +96,19 @@ sessionAfter x m p t = record {
   cause = causeAfter x m p t;
 }
 
--- the table, as far as a sample call uses it: what is judged of a sample that is laid out, before the walk, and with the walk
-abbrev pub rulesRaw : Session → RawSample → List ℕ → List ℕ → List Rule
-rulesRaw x raw p t =
-    (profile.brokenIn p, BrokenProfile)
-    ∷ (targets.brokenIn t, BrokenTargets)
-    ∷ (sample.badReading raw, BadReading)
-    ∷ (wrongTime x (sample.sampleOf raw), WrongTime)
-    ∷ (notCovered (x .consist) p (sample.sampleOf raw), NotCovered)
-    ∷ []
-
-abbrev pub rulesBefore : Session → List ℕ → List ℕ → List ℕ → List Rule
-rulesBefore x s p t = (notOpen x, NoSession) ∷ sample.layoutRules s ++ rulesRaw x (sample.rawIn s) p t
-
+-- the table, as far as a sample call uses it
 abbrev pub rules : Session → List ℕ → List ℕ → List ℕ → List ℕ → List Rule
-rules x s p t out = rulesBefore x s p t ++ (prediction x (sampleIn s) p t .fast, TooFast) ∷ (noRoom 8 out, NoRoom) ∷ []
+rules x s p t out =
+    (notOpen x, NoSession)
+    ∷ sample.layoutRules s
+    ++ (profile.brokenIn p, BrokenProfile)
+    ∷ (targets.brokenIn t, BrokenTargets)
+    ∷ (sample.badReading (sample.rawIn s), BadReading)
+    ∷ (wrongTime x (sampleIn s), WrongTime)
+    ∷ (notCovered (x .consist) p (sampleIn s), NotCovered)
+    ∷ (prediction x (sampleIn s) p t .fast, TooFast)
+    ∷ (noRoom 8 out, NoRoom)
+    ∷ []
 
 abbrev pub kept : Verdict → Session → Session → Session
 kept verdict.Accepted old new = new

@@ -10,7 +10,7 @@ use Rattle.refusal.specs.declared.Verdict.the-variants.{Refused}
 use Rattle.session.specs.declared.Session.{Session}
 use Rattle.session.specs.declared.Answer.{Answer}
 
--- a value that an opening or an accepted sample hands back; any other is no open session
+-- every value that an opening or an accepted sample hands back passes this test; what fails it is no open session
 unfoldable pub isOpen : Session → Bool
 isOpen x =
     x .opened

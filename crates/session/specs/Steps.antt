@@ -1,7 +1,8 @@
 -- What the steps of a sample call find on their way. Definitions only.
-use mathlib.Core.List.{List}
+use mathlib.Core.List.{List, [], _∷_, _++_}
 use Prim.Native.Nat.{ℕ, _≤_}
-use Rattle.refusal.specs.Lowest.{lowest}
+use Rattle.refusal.specs.Lowest.{Rule, lowest}
+use Rattle.refusal.specs.declared.Refusal.the-variants.{NoSession, BrokenProfile, BrokenTargets, BadReading, WrongTime, NotCovered}
 use Rattle.refusal.specs.declared.Verdict.{Verdict}
 use Rattle.refusal.specs.declared.Verdict.the-variants as verdict
 use Rattle.consist.specs.declared.Consist.{Consist}
@@ -13,18 +14,33 @@ use Rattle.track.specs.Gentle.{Gentle}
 use Rattle.sample.specs.Bounds.{Bounded}
 use Rattle.sample.specs.declared.RawSample.{RawSample}
 use Rattle.sample.specs.declared.Sample.{Sample}
-use Rattle.sample.specs.Sample.{sampleOf}
+use Rattle.sample.specs.Sample.{rawIn, sampleOf, badReading, layoutRules}
+use Rattle.profile.specs.Profile as profile
 use Rattle.targets.specs.Targets as targets
 use Rattle.session.specs.declared.Session.{Session}
 use Rattle.session.specs.declared.Entry.{Entry}
 use Rattle.session.specs.declared.Entry.the-variants.{Admitted, Refused}
 use Rattle.session.specs.declared.After.{After}
 use Rattle.session.specs.declared.Listed.{Listed}
-use Rattle.session.specs.Sample.{sampleIn, locationsIn, speedsIn, rulesRaw, rulesBefore, sessionAfter, decisionOf, prediction}
+use Rattle.session.specs.Sample.{sampleIn, notOpen, wrongTime, notCovered, sessionAfter, decisionOf, prediction}
 
 abbrev pub entry : Verdict → Sample → Entry
 entry verdict.Accepted m = Admitted m
 entry (verdict.Refused r) m = Refused r
+
+-- the table's lines between the layout and the walk, of a sample that is laid out
+abbrev pub rulesRaw : Session → RawSample → List ℕ → List ℕ → List Rule
+rulesRaw x raw p t =
+    (profile.brokenIn p, BrokenProfile)
+    ∷ (targets.brokenIn t, BrokenTargets)
+    ∷ (badReading raw, BadReading)
+    ∷ (wrongTime x (sampleOf raw), WrongTime)
+    ∷ (notCovered (x .consist) p (sampleOf raw), NotCovered)
+    ∷ []
+
+-- and all of them before the walk
+abbrev pub rulesBefore : Session → List ℕ → List ℕ → List ℕ → List Rule
+rulesBefore x s p t = (notOpen x, NoSession) ∷ layoutRules s ++ rulesRaw x (rawIn s) p t
 
 -- what is refused of a sample that is laid out, or the sample
 unfoldable pub admitRaw : Session → RawSample → List ℕ → List ℕ → Entry
@@ -36,7 +52,7 @@ admitOf x s p t = entry (lowest (rulesBefore x s p t)) (sampleIn s)
 
 -- the targets, place by place
 abbrev pub listedOf : List ℕ → Listed
-listedOf t = record { count = targets.count t; locations = locationsIn t; speeds = speedsIn t }
+listedOf t = record { count = targets.count t; locations = targets.locationsIn t 8; speeds = targets.speedsIn t 8 }
 
 -- what an accepted sample makes of the session
 abbrev pub afterOf : Session → Sample → List ℕ → List ℕ → After

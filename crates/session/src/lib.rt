@@ -75,7 +75,7 @@ pub fn none() -> Session
     }
 }
 
-// Whether a session is open: a value that no opening made is none.
+// Whether a session is open, as far as a test on its value can tell.
 pub fn is_open(x: Session) -> bool
     ensures { λ r. ⌜ r ≡ isOpen x ⌝ }
 {

@@ -18,8 +18,8 @@ use Rattle.refusal.specs.declared.Verdict.the-variants as verdict
 use Rattle.refusal.proofs.Order.{accepted, written-accepted}
 use Rattle.targets.specs.declared.Target.{Target}
 use Rattle.targets.specs.declared.Judged.the-variants.{Records}
-use Rattle.targets.specs.Targets.{size, widths, fieldsOf, ofFields, targetBytes, inRange, kept, count, recordAt, targetAt, keptIn, targetOf, keptOf, bytesOf, writeTargets}
-use Rattle.targets.specs.RoundTrip.{Holds, WrittenReadsBack, locationsIn, speedsIn, AcceptedWritesBack}
+use Rattle.targets.specs.Targets.{size, widths, fieldsOf, ofFields, targetBytes, inRange, kept, count, recordAt, targetAt, keptIn, targetOf, keptOf, bytesOf, writeTargets, locationsIn, speedsIn}
+use Rattle.targets.specs.RoundTrip.{Holds, WrittenReadsBack, AcceptedWritesBack}
 use Rattle.bits.proofs.UpTo.{length-upTo, getD-upTo}
 use Rattle.targets.proofs.Rules.{ranged, rows, rows-back, kept-range, kept-same}
 use Rattle.targets.proofs.Answers.{length-bytes-of, judge-kept, write-kept}

@@ -6,7 +6,7 @@ use lib.ListN.{length, getD}
 use lib.Dec.{leb, ltb, eqb}
 use Rattle.bits.specs.Fields.{split}
 use Rattle.bits.specs.Bytes.{num, bytesFrom}
-use Rattle.bits.specs.Tables.{every, part, table}
+use Rattle.bits.specs.Tables.{every, part, table, upTo}
 use Rattle.refusal.specs.Lowest.{Rule, lowest}
 use Rattle.refusal.specs.Written.{noRoom, written}
 use Rattle.refusal.specs.declared.Refusal.the-variants.{BrokenTargets, NoRoom}
@@ -72,6 +72,13 @@ recordAt t k = cond (ltb k (count t)) (num (part size t k)) 0
 -- record k; past the last whole record, one of zeros
 unfoldable pub targetAt : List ℕ → ℕ → Target
 targetAt t k = ofFields (split widths (recordAt t k))
+
+-- the locations and the speeds of the first n
+abbrev pub locationsIn : List ℕ → ℕ → List ℕ
+locationsIn t n = upTo n (λ k. targetAt t k .location)
+
+abbrev pub speedsIn : List ℕ → ℕ → List ℕ
+speedsIn t n = upTo n (λ k. targetAt t k .speed)
 
 -- 5 bytes a record, and the rules
 unfoldable pub keptIn : List ℕ → Bool

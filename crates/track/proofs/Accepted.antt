@@ -13,10 +13,6 @@ use Rattle.track.specs.Gentle.{Gentle}
 use Rattle.track.proofs.Lay.{nothing, past, lay-at, lay-past}
 
 module _ (p : List ℕ) (n : ℕ) (h : judgeProfile p ≡ Records n) where
-  pub lay-count : layOf p .count ≡ n
-  unfolding layOf
-  lay-count = omega (arith, judged-kept p n h .1, judged-sound p n h .most)
-
   -- every place, past the last record too
   lay-ranged : (k : ℕ) → Ranged (at (layOf p) k)
   lay-ranged k = by (decLt k n) (decLt k most)

@@ -16,7 +16,7 @@ use Rattle.whole.proofs.Roots.{root-mono, root-grows, root-pos}
 use Rattle.consist.specs.declared.Consist.{Consist}
 use Rattle.walk.specs.declared.Run.{Run}
 use Rattle.walk.specs.Step.{Ground, opposing, loss, stepTime, stepOf}
-use Rattle.walk.specs.Walk.{Place, at, never, tooFast, verdict, walkTo, placeFor}
+use Rattle.walk.specs.Walk.{Place, at, never, tooFast, placeBy, walkTo, placeFor}
 use Rattle.walk.specs.Compare.{NotShort, Weaker, Alike, Heavy, Ahead, StaysAhead, NeverShort}
 use Rattle.walk.proofs.Equations.{walk-fast, walk-at, walk-never, walk-on}
 use Rattle.walk.proofs.Force.{div-le}
@@ -86,7 +86,7 @@ stays-ahead c d f g ground r s heavy alike weaker ahead some =
 -- ---- the walk
 
 -- no walk comes to a place short of its start
-verdict-from : (h m : ℕ) (a b : Bool) (rest : Place) → h ≤ m → NotShort rest (at h) → NotShort (verdict a b m rest) (at h)
+verdict-from : (h m : ℕ) (a b : Bool) (rest : Place) → h ≤ m → NotShort rest (at h) → NotShort (placeBy a b m rest) (at h)
 verdict-from h m true b rest l r = tt
 verdict-from h m false true rest l r = l
 verdict-from h m false false rest l r = r

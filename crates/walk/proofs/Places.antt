@@ -17,7 +17,7 @@ use Rattle.walk.specs.declared.Run.{Run}
 use Rattle.walk.specs.Step.{Ground, stepOf}
 use Rattle.walk.specs.Walk.{Place, at, never, fast, walkTo, start, placeFor, locationOf, isFast, predictOf}
 use Rattle.walk.specs.Range.{timeMost}
-use Rattle.walk.specs.Marks.{none, markOf, Marked, Open, predictionOf}
+use Rattle.walk.specs.Marks.{none, markOf, Marked, Open, predictionWith}
 use Rattle.walk.proofs.Equations.{walk-fast, walk-at, walk-never, walk-on}
 use Rattle.walk.proofs.Bounds.{time-most}
 
@@ -120,14 +120,14 @@ mapped f (u ∷ us) (p ∷ ps) e h = ap₂ _∷_ (h 0 (zero-lt-suc _)) (mapped f
 module _ {c : Consist} {force : ℕ → ℕ} {ground : Ground} {head v : ℕ} {speeds : List ℕ} {n : ℕ} {r : Run} {places : List ℕ}
     (eight : length speeds ≡ 8) (w : Walked c force ground head v speeds n r places) where
   abbrev pub Answers : Place → List ℕ → Type 0
-  Answers p ps = predictionOf (isFast p) (locationOf p) ps ≡ predictOf c force ground head v speeds
+  Answers p ps = predictionWith (isFast p) (locationOf p) ps ≡ predictOf c force ground head v speeds
 
   -- from the stop's place and from every other
   answer : (p : Place) (ps : List ℕ) → length ps ≡ 8 → placeFor c force ground head v 0 ≡ p
       → ((i : ℕ) → i < 8 → getD ps i 0 ≡ locationOf (placeFor c force ground head v (getD speeds i 0))) → Answers p ps
   unfolding predictOf
   answer p ps size e h =
-      ap₂ (λ (q : Place) (qs : List ℕ). predictionOf (isFast q) (locationOf q) qs) (sym e)
+      ap₂ (λ (q : Place) (qs : List ℕ). predictionWith (isFast q) (locationOf q) qs) (sym e)
       (mapped (λ (u : ℕ). locationOf (placeFor c force ground head v u)) speeds ps (size ∙ sym eight) (λ i k. h i (omega arith)))
 
   pub answer-fast : 1000000000 < r .q → Answers fast places

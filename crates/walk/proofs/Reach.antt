@@ -9,7 +9,7 @@ use lib.Dec.{leb}
 use Rattle.consist.specs.declared.Consist.{Consist}
 use Rattle.walk.specs.declared.Run.{Run}
 use Rattle.walk.specs.Step.{Ground, stepOf}
-use Rattle.walk.specs.Walk.{Place, at, never, fast, tooFast, verdict, walkTo, start, placeFor, locationOf}
+use Rattle.walk.specs.Walk.{Place, at, never, fast, tooFast, placeBy, walkTo, start, placeFor, locationOf}
 use Rattle.walk.specs.Compare.{NotShort}
 use Rattle.walk.proofs.Equations.{walk-at}
 
@@ -19,7 +19,7 @@ NoFurther m (at h) = h ≤ m
 NoFurther m never = Unit {0}
 NoFurther m fast = Unit {0}
 
-verdict-no-further : (m h : ℕ) (a b : Bool) (rest : Place) → h ≤ m → NoFurther m rest → NoFurther m (verdict a b h rest)
+verdict-no-further : (m h : ℕ) (a b : Bool) (rest : Place) → h ≤ m → NoFurther m rest → NoFurther m (placeBy a b h rest)
 verdict-no-further m h true b rest l r = tt
 verdict-no-further m h false true rest l r = l
 verdict-no-further m h false false rest l r = r

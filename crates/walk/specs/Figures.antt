@@ -9,7 +9,7 @@ use Rattle.walk.specs.declared.Curve.{Curve}
 use Rattle.walk.specs.Curve.{cylinderAt, forceAt, penaltyCurve}
 use Rattle.walk.specs.Step.{groundOf, loss, stepTime}
 use Rattle.walk.specs.Walk.{predictOf}
-use Rattle.walk.specs.Marks.{predictionOf}
+use Rattle.walk.specs.Marks.{predictionWith}
 
 -- "level profile 0 to 40,000"
 abbrev pub level : Track
@@ -30,4 +30,4 @@ pub record Figures : Type 0 where
   pub long-step : stepTime 1 ≡ 1090909
   pub short-step : stepTime 10000 ≡ 109
   -- the case's second line, for the stop and for its target's speed
-  pub case : predictOf train (forceAt (train .rated) curve) (groundOf level (train .length)) 5000 100 (0 ∷ []) ≡ predictionOf false 5032 (5032 ∷ [])
+  pub case : predictOf train (forceAt (train .rated) curve) (groundOf level (train .length)) 5000 100 (0 ∷ []) ≡ predictionWith false 5032 (5032 ∷ [])

@@ -8,7 +8,7 @@ use Rattle.whole.specs.Floor.{cut}
 use Rattle.whole.specs.Root.{rootOf}
 use Rattle.consist.specs.declared.Consist.{Consist}
 use Rattle.walk.specs.Step.{Ground, loss, stepTime}
-use Rattle.walk.specs.Walk.{Place, never, verdict, placeFor}
+use Rattle.walk.specs.Walk.{Place, never, placeBy, placeFor}
 
 pub record RunZ : Type 0 where
   pub head : ℕ
@@ -27,10 +27,10 @@ stepZ c force ground r =
 
 -- "The stopping location is the head when q first is 0 or less."
 unfoldable pub walkZ : Consist → (ℕ → ℕ) → Ground → ℕ → ℕ → RunZ → Place
-walkZ c force ground limit zero r = verdict (ltZ (pos 1000000000) (r .q)) (leZ (r .q) (pos limit)) (r .head) never
+walkZ c force ground limit zero r = placeBy (ltZ (pos 1000000000) (r .q)) (leZ (r .q) (pos limit)) (r .head) never
 walkZ c force ground limit (suc n) r =
     let rest : Place = walkZ c force ground limit n (stepZ c force ground r) in
-    verdict (ltZ (pos 1000000000) (r .q)) (leZ (r .q) (pos limit)) (r .head) rest
+    placeBy (ltZ (pos 1000000000) (r .q)) (leZ (r .q) (pos limit)) (r .head) rest
 
 abbrev pub startZ : ℕ → ℕ → RunZ
 startZ head v = record { head = head; clock = 0; q = pos (v * v) }

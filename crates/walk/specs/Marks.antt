@@ -27,8 +27,8 @@ pub record Marked (r : Run) (speeds before after : List ℕ) : Type 0 where
 pub record Open (speeds places : List ℕ) (next : ℕ) : Type 0 where
   pub below : (i : ℕ) → i < 8 → getD places i 0 ≡ none → getD speeds i 0 * getD speeds i 0 ≤ next
 
-abbrev pub predictionOf : Bool → ℕ → List ℕ → Prediction
-predictionOf fast stop places = record { fast = fast; stop = stop; places = places }
+abbrev pub predictionWith : Bool → ℕ → List ℕ → Prediction
+predictionWith fast stop places = record { fast = fast; stop = stop; places = places }
 
 -- the ground that has these averages wherever the head is
 abbrev pub even : Under → Ground

@@ -8,7 +8,7 @@ use Rattle.track.specs.Gentle.{Gentle}
 use Rattle.walk.specs.declared.Curve.{Curve}
 use Rattle.walk.specs.declared.Run.{Run}
 
--- a curve that divides by something, and whose pressures are those of a brake
+-- a curve that divides by something, and whose pressures are those of a brake or above them: the bounds leave room for another curve
 pub record Braking (k : Curve) : Type 0 where
   pub den : 0 < k .den
   pub num : k .num ≤ 22000
@@ -29,7 +29,7 @@ pub record Applied (k : Curve) (t : ℕ) : Type 0 where
   pub curve : Braking k
   pub clock : t ≤ 2048 * timeMost
 
--- what the opposing force is made of, beside the consist
+-- what the opposing force is made of, beside the consist: the greatest force of such a curve, and averages with room above the profile's 500 and 2,000
 pub record Opposed (f s q : ℕ) (u : Under) : Type 0 where
   pub force : f ≤ 212500000
   pub root : s ≤ rootMost

@@ -19,17 +19,17 @@ unfoldable pub tooFast : ℕ → Bool
 tooFast q = ltb 1000000000 q
 
 -- what a walk answers with its head at h: too fast; slow enough; or what the rest of it answers
-abbrev pub verdict : Bool → Bool → ℕ → Place → Place
-verdict true slow h rest = fast
-verdict false true h rest = at h
-verdict false false h rest = rest
+abbrev pub placeBy : Bool → Bool → ℕ → Place → Place
+placeBy true slow h rest = fast
+placeBy false true h rest = at h
+placeBy false false h rest = rest
 
 -- the head when q first is at or below the limit, in n steps
 unfoldable pub walkTo : Consist → (ℕ → ℕ) → Ground → ℕ → ℕ → Run → Place
-walkTo c force ground limit zero r = verdict (tooFast (r .q)) (leb (r .q) limit) (r .head) never
+walkTo c force ground limit zero r = placeBy (tooFast (r .q)) (leb (r .q) limit) (r .head) never
 walkTo c force ground limit (suc n) r =
     let rest : Place = walkTo c force ground limit n (stepOf c force ground r) in
-    verdict (tooFast (r .q)) (leb (r .q) limit) (r .head) rest
+    placeBy (tooFast (r .q)) (leb (r .q) limit) (r .head) rest
 
 -- "It starts with clock t = 0, squared speed q = speed squared."
 abbrev pub start : ℕ → ℕ → Run

@@ -12,7 +12,7 @@ ghost use Rattle.walk.specs.Curve.{dropAt, cylinderAt, forceAt, penaltyC
 ghost use Rattle.walk.specs.Step.{opposing, loss, stepTime, stepOf, groundOf};
 ghost use Rattle.walk.specs.Walk.{start, predictOf};
 ghost use Rattle.walk.specs.Range.{Applied, Opposed, Moving, Walkable, rootMost};
-ghost use Rattle.walk.specs.Marks.{none, markOf, Marked, Open, predictionOf, even};
+ghost use Rattle.walk.specs.Marks.{none, markOf, Marked, Open, predictionWith, even};
 
 // A place whose speed is not reached, and the stop of a walk that has none.
 const NONE: u32 = 16_777_215;
@@ -207,7 +207,7 @@ fn next_mark(places: [u32; 8], speeds: [u16; 8]) -> u64
 }
 
 fn predicted(fast: bool, stop: u32, places: [u32; 8]) -> Prediction
-    ensures { λ r. ⌜ r ≡ predictionOf fast stop places ⌝ }
+    ensures { λ r. ⌜ r ≡ predictionWith fast stop places ⌝ }
 {
     Prediction { fast, stop, places }
 }

@@ -1,9 +1,8 @@
 -- Laws of division up: it is the least whole number of which b times is not below a, and it depends on the fraction alone.
 -- Assumes nothing.
-use mathlib.Core.Path.{_≡_, sym}
 use mathlib.Core.Logic.{_↔_}
 use Prim.Native.Nat.{ℕ, suc, _+_, _-_, _*_, _≤_, _<_, suc-le-suc}
-use native.Mathlib.Nat.{div-lt-iff-lt-mul, le-refl, le-of-eq, le-antisymm, le-of-suc-le-suc, mul-le-mul-right, le-of-mul-le-mul-right}
+use native.Mathlib.Nat.{div-lt-iff-lt-mul, le-refl, le-of-suc-le-suc, mul-le-mul-right, le-of-mul-le-mul-right}
 use native.Mathlib.Omega.{arith}
 use Rattle.whole.specs.Ceiling.{ceilDiv}
 
@@ -24,7 +23,3 @@ pub ceil-mono : (a b c d : ℕ) → 0 < b → 0 < d → a * d ≤ c * b → ceil
 ceil-mono a b c d h k l =
     let n = ceilDiv c d in
     ceil-least a b n h (le-of-mul-le-mul-right {m = a} {n = n * b} {k = d} (omega (arith, mul-le-mul-right b (ceil-ge c d k))) k)
-
--- a / b and c / d are one fraction
-pub ceil-same : (a b c d : ℕ) → 0 < b → 0 < d → a * d ≡ c * b → ceilDiv a b ≡ ceilDiv c d
-ceil-same a b c d h k e = le-antisymm (ceil-mono a b c d h k (le-of-eq e)) (ceil-mono c d a b k h (le-of-eq (sym e)))

@@ -8,10 +8,10 @@ use Rattle.whole.specs.Figures.{Figures}
 pub figures : Figures
 unfolding floorDiv ceilDiv digits rootOf
 figures = record {
-  grade = refl;
   below-zero = refl;
-  offset-40 = refl;
-  offset-30 = refl;
+  whole-below = refl;
+  half-up = refl;
+  whole-up = refl;
   root-exact = refl;
   root-under = refl;
 }

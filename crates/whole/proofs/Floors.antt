@@ -1,22 +1,16 @@
 -- Laws of division down, by a natural number k: between which multiples it lies, that nothing else does, its order and its size.
 -- Assumes nothing.
-use mathlib.Core.Path.{_≡_, refl, sym, ap}
-use Prim.Native.Nat.{ℕ, zero, suc, _+_, _*_, _/_, _≤_, _<_}
-use native.Mathlib.Nat.{div-add-mod', mod-lt, div-zero, div-le-self, div-lt-iff-lt-mul, lt-of-mul-lt-mul-left, le-of-suc-le-suc, zero-lt-suc, le-antisymm}
+use mathlib.Core.Path.{_≡_, ap}
+use Prim.Native.Nat.{ℕ, zero, suc, _+_, _*_, _≤_, _<_}
+use native.Mathlib.Nat.{div-add-mod', mod-lt, div-le-self, div-lt-iff-lt-mul, lt-of-mul-lt-mul-left, le-of-suc-le-suc, zero-lt-suc, le-antisymm}
 use native.Mathlib.Omega.{arith}
 use lib.IntN.{ℤ, pos, negsuc, natAbs, _+ℤ_, _*ℤ_}
 use mir.Syntax.{Width}
 use mir.Val.{SFits}
 use Rattle.whole.specs.Floor.{IsFloor, floorDiv}
-use Rattle.whole.proofs.Parts.{up, dn, AtMost, add-parts, times-up, times-dn, parts-eq}
+use Rattle.whole.proofs.Parts.{up, dn, add-parts, times-up, times-dn, parts-eq}
 use Rattle.whole.proofs.Order.{le-parts, lt-parts, parts-le, parts-lt}
 use Rattle.whole.proofs.Size.{abs-parts, fits-within}
-
--- of a natural number, it is the division of natural numbers
-pub floor-pos : (a k : ℕ) → floorDiv (pos a) (pos k) ≡ pos (a / k)
-unfolding floorDiv
-floor-pos a zero = ap pos (sym (div-zero a))
-floor-pos a (suc k) = refl
 
 -- k * f ≤ z, and z < k * (f + 1), over the parts
 abbrev pub Low : ℤ → ℕ → ℤ → Type 0
@@ -82,9 +76,6 @@ floor-grows x y k e h l =
     let f : ℤ = floorDiv x (pos k) in
     let g : ℤ = floorDiv y (pos k) in
     within k (up f + dn g) (up g + dn f + e) (omega (arith, floor-low x k h, floor-high y k h))
-
-pub floor-mono : (x y : ℤ) (k : ℕ) → 0 < k → AtMost x y → AtMost (floorDiv x (pos k)) (floorDiv y (pos k))
-floor-mono x y k h l = omega (arith, floor-grows x y k 0 h (omega arith))
 
 -- ---- size
 pub floor-up : (z k : ℤ) → up (floorDiv z k) ≤ up z

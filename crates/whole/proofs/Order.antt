@@ -47,19 +47,6 @@ module _ (a b : ℤ) where
   pub leZ-false : leZ a b ≡ false → Below b a
   leZ-false e = leb-false _ _ (sym (leZ-parts a b) ∙ e)
 
-  -- what decides a test
-  pub lt-ltZ : Below a b → ltZ a b ≡ true
-  lt-ltZ h = ltZ-parts a b ∙ lt-ltb _ _ h
-
-  pub le-ltZ : AtMost b a → ltZ a b ≡ false
-  le-ltZ h = ltZ-parts a b ∙ le-ltb _ _ h
-
-  pub le-leZ : AtMost a b → leZ a b ≡ true
-  le-leZ h = leZ-parts a b ∙ le-leb _ _ h
-
-  pub lt-leZ : Below b a → leZ a b ≡ false
-  lt-leZ h = leZ-parts a b ∙ lt-leb _ _ h
-
   -- the orders
   pub parts-le : AtMost a b → a ≤ℤ b
   parts-le h = record { le = subst T (sym (leZ-parts a b)) (le→leb _ _ h) }

@@ -1,17 +1,16 @@
--- The figures of document 01 that are one division, and two roots, as one statement. Assumes nothing.
+-- Worked divisions and roots, as one statement. Its proof is `figures` of proofs/Figures.antt.
 use mathlib.Core.Path.{_≡_}
-use Prim.Native.Nat.{_*_, _-_}
-use lib.IntN.{pos, negsuc, _+ℤ_, _*ℤ_}
+use lib.IntN.{pos, negsuc}
 use Rattle.whole.specs.Floor.{floorDiv}
 use Rattle.whole.specs.Ceiling.{ceilDiv}
 use Rattle.whole.specs.Root.{rootOf}
 
 pub record Figures : Type 0 where
-  -- "51 ft at 50 and 49 ft at -53, length 100: G -1"
-  pub grade : floorDiv (pos 51 *ℤ pos 50 +ℤ pos 49 *ℤ negsuc 52) (pos 100) ≡ negsuc 0
+  -- -1 / 100 and -100 / 100, down
   pub below-zero : floorDiv (negsuc 0) (pos 100) ≡ negsuc 0
-  -- "Offset 500, 40 to 20 mph: 375; 30 to 20: 278"
-  pub offset-40 : ceilDiv (500 * (4000 * 4000 - 2000 * 2000)) (4000 * 4000) ≡ 375
-  pub offset-30 : ceilDiv (500 * (3000 * 3000 - 2000 * 2000)) (3000 * 3000) ≡ 278
+  pub whole-below : floorDiv (negsuc 99) (pos 100) ≡ negsuc 0
+  -- 7 / 2 and 8 / 2, up
+  pub half-up : ceilDiv 7 2 ≡ 4
+  pub whole-up : ceilDiv 8 2 ≡ 4
   pub root-exact : rootOf 10000 ≡ 100
   pub root-under : rootOf 9999 ≡ 99

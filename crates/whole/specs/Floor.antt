@@ -1,4 +1,4 @@
--- Division down. Assumes nothing.
+-- Division down. That `floorDiv` is the floor, and nothing else is, are `floor-is` and `floor-unique` of proofs/Floors.antt. Assumes nothing.
 use Prim.Native.Nat.{ℕ, zero, suc, _/_}
 use lib.IntN.{ℤ, pos, negsuc, _+ℤ_, _*ℤ_}
 use lib.Signed.{_≤ℤ_, _<ℤ_}

@@ -10,7 +10,7 @@ use Rattle.bits.specs.Fields.{split}
 use Rattle.bits.specs.Bytes.{Bytes}
 use Rattle.session.specs.Session.{isOpen}
 use Rattle.held.specs.declared.Answer.the-variants.{Accepted}
-use Rattle.held.specs.Held.{fieldsAt, ofFields, sessionIn, wrongMark}
+use Rattle.held.specs.Held.{fieldsAt, ofFields, sessionIn, notHeld}
 use Rattle.held.specs.Steps.{firstWidths, fieldsFrom}
 use Rattle.held.proofs.Words.{mark-read, session-read, consist-refused}
 use Rattle.held.proofs.Answers.{read-length, read-mark, read-closed, read-accepted}
@@ -30,11 +30,11 @@ module _ (c : tie.Else1) where
   size = omega arith
 
 -- the mark is judged by the first word
-mark-judged : (c : tie.After-wrong-mark) → c .wrong-mark .result ≡ wrongMark (fieldsAt (s (c .before .before .before)))
+mark-judged : (c : tie.After-not-held) → c .not-held .result ≡ notHeld (fieldsAt (s (c .before .before .before)))
 mark-judged c =
     let past = c .before .before .before in
-    c .wrong-mark .ensures
-    ∙ ap (λ (n : ℕ). wrongMark (split firstWidths n)) (c .before .word .ensures)
+    c .not-held .ensures
+    ∙ ap (λ (n : ℕ). notHeld (split firstWidths n)) (c .before .word .ensures)
     ∙ mark-read (s past) (bytes past) (size past)
 
 -- what is made of the words and the consist is what the bytes stand for
@@ -62,8 +62,8 @@ part-word-end c = search needs
 word-requires : tie.Need-word-requires
 word-requires c κs = search needs
 
-wrong-mark-requires : tie.Need-wrong-mark-requires
-wrong-mark-requires c κs = search needs
+not-held-requires : tie.Need-not-held-requires
+not-held-requires c κs = search needs
 
 returns-2 : tie.Need-returns-2
 returns-2 c = sym (read-mark _ (sym (mark-judged (c .before)) ∙ c .if2 .taken))
@@ -145,7 +145,7 @@ read-spec =
     part-word-start
     part-word-end
     word-requires
-    wrong-mark-requires
+    not-held-requires
     returns-2
     sub-read
     part-read-start

@@ -2,12 +2,12 @@
 use mathlib.Core.Path.{_≡_, refl}
 use mathlib.Core.Bool.{false}
 use lib.Ieee.{ofBits}
-use Rattle.hundredths.specs.Reading.{outOfRange, mostPressure, pressureOf}
+use Rattle.hundredths.specs.Reading.{isBad, mostPressure, pressureOf}
 use Rattle.hundredths.proofs.Judge.{taken, left}
 use Rattle.hundredths.proofs.pressure.Statement.{statement}
 use Rattle.hundredths.proofs.pressure.Tie as tie
 
-accepted : (c : tie.Then1) → outOfRange mostPressure (c .before .args .x) ≡ false
+accepted : (c : tie.Then1) → isBad mostPressure (c .before .args .x) ≡ false
 unfolding ofBits
 accepted c = taken mostPressure 5 5 refl (c .before .args .x) (c .if1 .taken)
 

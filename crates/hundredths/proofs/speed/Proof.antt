@@ -3,13 +3,13 @@ use mathlib.Core.Path.{_≡_, refl}
 use mathlib.Core.Bool.{false}
 use lib.Dec.{lit≤}
 use lib.Ieee.{ofBits}
-use Rattle.hundredths.specs.Reading.{outOfRange, mostSpeed, mostPressure, speedOf}
+use Rattle.hundredths.specs.Reading.{isBad, mostSpeed, mostPressure, speedOf}
 use Rattle.hundredths.proofs.Accepted.{wider}
 use Rattle.hundredths.proofs.Judge.{taken, left}
 use Rattle.hundredths.proofs.speed.Statement.{statement}
 use Rattle.hundredths.proofs.speed.Tie as tie
 
-accepted : (c : tie.Then1) → outOfRange mostSpeed (c .before .args .x) ≡ false
+accepted : (c : tie.Then1) → isBad mostSpeed (c .before .args .x) ≡ false
 unfolding ofBits
 accepted c = taken mostSpeed 25 2 refl (c .before .args .x) (c .if1 .taken)
 

@@ -3,7 +3,7 @@ use mathlib.Core.Path.{_≡_, sym, ap, _∙_}
 use mathlib.Core.Bool.{Bool, true, false, cond}
 use Prim.Native.Nat.{ℕ}
 use lib.Ieee.{Float}
-use Rattle.hundredths.specs.Reading.{hundredthsOf, outOfRange, mostPressure}
+use Rattle.hundredths.specs.Reading.{hundredthsOf, isBad, mostPressure}
 use Rattle.hundredths.specs.declared.Rounding.the-variants.{Down}
 use Rattle.hundredths.proofs.Accepted.{pressure-refused, pressure-accepted}
 use Rattle.sample.specs.declared.Rear.the-variants.{Present}
@@ -16,10 +16,10 @@ use Rattle.sample.proofs.judge_rear.Statement.{statement}
 use Rattle.sample.proofs.judge_rear.Tie as tie
 
 -- a present rear, out of range or not
-bad : (x : Float) → outOfRange mostPressure x ≡ true → judgeRear (Present x) ≡ Off
+bad : (x : Float) → isBad mostPressure x ≡ true → judgeRear (Present x) ≡ Off
 bad x h = ap (λ (b : Bool). cond b Off (On (rearInHundredths (Present x)))) h
 
-good : (x : Float) (n : ℕ) → outOfRange mostPressure x ≡ false → n ≡ hundredthsOf Down x → judgeRear (Present x) ≡ On (pressure.Present n)
+good : (x : Float) (n : ℕ) → isBad mostPressure x ≡ false → n ≡ hundredthsOf Down x → judgeRear (Present x) ≡ On (pressure.Present n)
 good x n h e = ap (λ (b : Bool). cond b Off (On (rearInHundredths (Present x)))) h ∙ ap (λ (k : ℕ). On (pressure.Present k)) (sym e)
 
 enum-known-rear : tie.Need-enum-known-rear

@@ -11,8 +11,8 @@ use Rattle.decision.specs.Decision.{writeDecision}
 use Rattle.session.specs.declared.Answer.{Answer}
 use Rattle.session.specs.declared.After.{After}
 use Rattle.session.specs.Session.{refusedWith}
-use Rattle.session.specs.Sample.{sampleIn, rulesBefore, decisionOf}
-use Rattle.session.specs.Steps.{afterOf, Ready}
+use Rattle.session.specs.Sample.{sampleIn, decisionOf}
+use Rattle.session.specs.Steps.{rulesBefore, afterOf, Ready}
 use Rattle.session.proofs.Admitted.{admitted, not-admitted, ready, in-range}
 use Rattle.session.proofs.Calls.{call-before, call-fast, call-room, call-accepted, wrote-refused, wrote-accepted}
 use borrow.Author.Needs.{needs}

@@ -10,6 +10,7 @@ use Rattle.refusal.specs.Lowest.{Rule, lowest}
 use Rattle.refusal.specs.Written.{noRoom}
 use Rattle.refusal.specs.declared.Refusal.the-variants.{NoRoom}
 use Rattle.refusal.proofs.Order.{given, last-passed, append-passed, append-given}
+use Rattle.refusal.proofs.Exactly.{lowest-refused, lowest-accepted}
 use Rattle.decision.specs.declared.Decision.{Decision}
 use Rattle.decision.specs.declared.Answer.the-variants.{Accepted, Refused}
 use Rattle.decision.specs.Decision.{decisionIn, readRules, readDecision}
@@ -17,7 +18,7 @@ use Rattle.decision.specs.Exactly.{ReadExactly}
 use Rattle.decision.proofs.Exactly.{read-exactly}
 use Rattle.decision.proofs.RoundTrip.{read-inv}
 use Rattle.mount.specs.Records.{numbersOf, decisionRead}
-use Rattle.mount.proofs.Told.{told-refused, told-accepted, lowest-refused, lowest-accepted}
+use Rattle.mount.proofs.Told.{told-refused, told-accepted}
 use borrow.Author.Needs.{needs}
 use Rattle.mount.proofs.records.buongilach_read_decision.Statement.{statement}
 use Rattle.mount.proofs.records.buongilach_read_decision.Tie as tie

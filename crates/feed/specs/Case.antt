@@ -1,0 +1,54 @@
+-- The case of document 01 as one feed, "Whole output", and feeds that are refused or end early. Its proof is `computed` of proofs/Case.antt.
+use mathlib.Core.Path.{_≡_}
+use mathlib.Core.List.{List, [], _∷_, _++_}
+use Prim.Native.Nat.{ℕ}
+use lib.ListN.{take, set}
+use Rattle.session.specs.Figures.{consist, profile, targets, sample}
+use Rattle.feed.specs.Output.{outputOf}
+
+-- two records of profile, one target
+abbrev pub opening : List ℕ
+opening = consist ++ 0 ∷ 2 ∷ profile ++ 1 ∷ targets
+
+-- 0, 5,000, 0.0
+abbrev pub first : List ℕ
+first = sample 0 0 0
+
+-- 1, 5,000, 1.0
+abbrev pub second : List ℕ
+second = sample 1 63 128
+
+-- 2, 5,001, 0.0: the last byte of its head is another
+abbrev pub third : List ℕ
+third = set (sample 2 0 0) 7 137
+
+-- `0 0 0 0 5000`
+abbrev pub firstLine : List ℕ
+firstLine = 48 ∷ 32 ∷ 48 ∷ 32 ∷ 48 ∷ 32 ∷ 48 ∷ 32 ∷ 53 ∷ 48 ∷ 48 ∷ 48 ∷ 10 ∷ []
+
+-- `1 0 1 1 5032`
+abbrev pub secondLine : List ℕ
+secondLine = 49 ∷ 32 ∷ 48 ∷ 32 ∷ 49 ∷ 32 ∷ 49 ∷ 32 ∷ 53 ∷ 48 ∷ 51 ∷ 50 ∷ 10 ∷ []
+
+-- `2 0 1 1 5001`
+abbrev pub thirdLine : List ℕ
+thirdLine = 50 ∷ 32 ∷ 48 ∷ 32 ∷ 49 ∷ 32 ∷ 49 ∷ 32 ∷ 53 ∷ 48 ∷ 48 ∷ 49 ∷ 10 ∷ []
+
+-- `x` and a digit, here by its character: 50 is `2`
+abbrev pub crossed : ℕ → List ℕ
+crossed digit = 120 ∷ 32 ∷ digit ∷ 10 ∷ []
+
+pub record Case : Type 0 where
+  pub whole-output : outputOf (opening ++ first ++ second ++ third) ≡ firstLine ++ secondLine ++ thirdLine
+  -- the last 5 bytes do not come: `x 2`
+  pub short-sample : outputOf (opening ++ first ++ second ++ take 15 third) ≡ firstLine ++ secondLine ++ crossed 50
+  -- the first sample again, refused `x 9`, does not end the run
+  pub goes-on : outputOf (opening ++ first ++ first ++ second) ≡ firstLine ++ crossed 57 ++ secondLine
+  -- no samples, no output
+  pub no-samples : outputOf opening ≡ []
+  -- no bytes at all: `x 2`
+  pub no-consist : outputOf [] ≡ crossed 50
+  -- a profile of 1 record: `x 6`
+  pub one-record : outputOf (consist ++ 0 ∷ 1 ∷ profile ++ 1 ∷ targets ++ first) ≡ crossed 54
+  -- 9 targets: `x 7`
+  pub nine-targets : outputOf (consist ++ 0 ∷ 2 ∷ profile ++ 9 ∷ targets ++ first) ≡ crossed 55

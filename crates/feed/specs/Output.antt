@@ -1,0 +1,83 @@
+-- The whole output of a feed: where its parts lie, and what is printed of them. Definitions only.
+use Prim.Native.Nat.{ℕ, _+_, _/_}
+use mathlib.Core.List.{List, [], _∷_, _++_}
+use lib.ListN.{length, take, drop, replicate}
+use Rattle.bits.specs.Tables.{upTo, part}
+use Rattle.refusal.specs.declared.Refusal.the-variants.{BrokenProfile, BrokenTargets}
+use Rattle.refusal.specs.declared.Verdict.{Verdict}
+use Rattle.refusal.specs.declared.Verdict.the-variants.{Accepted, Refused}
+use Rattle.session.specs.declared.Session.{Session}
+use Rattle.session.specs.Session.{noneOpen}
+use Rattle.session.specs.Open.{openOf}
+use Rattle.session.specs.Sample.{sampleCall}
+use Rattle.feed.specs.declared.opening.Part.{Part}
+use Rattle.feed.specs.declared.opening.Part.the-variants.{Bytes, Broken}
+use Rattle.feed.specs.Opening.{bytesIn, profileAhead, targetsAhead, profileTaken, targetsTaken}
+use Rattle.feed.specs.Line.{refusalText, sampleText}
+
+-- ---- "The session program reads standard input": each part takes its bytes from what is left, or as many as there are
+
+-- "consist"
+abbrev pub consistBytes : List ℕ → List ℕ
+consistBytes feed = take 16 feed
+
+abbrev pub afterConsist : List ℕ → List ℕ
+afterConsist feed = drop 16 feed
+
+-- "two-byte record count (high byte first)"
+abbrev pub profileAnnounced : List ℕ → Part
+profileAnnounced feed = profileAhead (take 2 (afterConsist feed))
+
+-- "and profile"
+abbrev pub profileBytes : List ℕ → List ℕ
+profileBytes feed = take (bytesIn (profileAnnounced feed)) (drop 2 (afterConsist feed))
+
+abbrev pub afterProfile : List ℕ → List ℕ
+afterProfile feed = drop (2 + bytesIn (profileAnnounced feed)) (afterConsist feed)
+
+-- "one-byte count"
+abbrev pub targetsAnnounced : List ℕ → Part
+targetsAnnounced feed = targetsAhead (take 1 (afterProfile feed))
+
+-- "and targets"
+abbrev pub targetsBytes : List ℕ → List ℕ
+targetsBytes feed = take (bytesIn (targetsAnnounced feed)) (drop 1 (afterProfile feed))
+
+abbrev pub afterTargets : List ℕ → List ℕ
+afterTargets feed = drop (1 + bytesIn (targetsAnnounced feed)) (afterProfile feed)
+
+-- "then samples": 20 bytes each, as many as were begun; the last may be short
+abbrev pub sampleBytes : List ℕ → List (List ℕ)
+sampleBytes feed = let s = afterTargets feed in upTo ((length s + 19) / 20) (part 20 s)
+
+-- ---- what is printed
+
+-- "Each sample prints one line", also after one that is refused; each call is lent the profile, the targets and 8 bytes for its decision.
+-- "A short last sample prints `x 2`" is the table's 2, and specs/Short.antt states it.
+unfoldable pub linesOf : Session → List ℕ → List ℕ → List (List ℕ) → List ℕ
+linesOf x p t [] = []
+linesOf x p t (s ∷ ss) =
+    let answer = sampleCall x s p t (replicate 8 0) in
+    let rest = linesOf (answer .0 .session) p t ss in
+    sampleText (answer .0 .verdict) (answer .1) ++ rest
+
+-- by the verdict on the consist, the profile and the targets that were taken, and the lines of the samples
+abbrev pub printed : Verdict → Part → Part → List ℕ → List ℕ
+-- "A refused consist prints `x` and its number and ends"
+printed (Refused r) profile targets lines = refusalText r
+-- "a broken or short profile prints `x 6`"
+printed Accepted Broken targets lines = refusalText BrokenProfile
+-- "targets `x 7`, and end"
+printed Accepted (Bytes n) Broken lines = refusalText BrokenTargets
+-- otherwise the samples' lines, and where there are no samples nothing
+printed Accepted (Bytes n) (Bytes m) lines = lines
+
+-- The whole output of a feed. That `run` prints it is not proved, as a descriptor's contents are in no contract: `run` is compared with the second
+-- program.
+unfoldable pub outputOf : List ℕ → List ℕ
+outputOf feed =
+    let opened = openOf noneOpen (consistBytes feed) in
+    let profile = profileTaken (profileAnnounced feed) (profileBytes feed) in
+    let targets = targetsTaken (targetsAnnounced feed) (targetsBytes feed) in
+    let lines = linesOf (opened .session) (profileBytes feed) (targetsBytes feed) (sampleBytes feed) in
+    printed (opened .verdict) profile targets lines
