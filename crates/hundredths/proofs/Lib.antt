@@ -1,3 +1,4 @@
+-- Laws of readings.
 pub mod Judge
 pub mod Rounded
 pub mod Accepted

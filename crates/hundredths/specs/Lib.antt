@@ -1,3 +1,4 @@
+-- Readings in hundredths.
 pub mod Reading
 pub mod Exact
 pub mod Figures
