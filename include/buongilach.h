@@ -34,7 +34,7 @@ extern "C" {
 #endif
 
 enum {
-    BUONGILACH_SESSION_BYTES = 36,
+    BUONGILACH_SESSION_BYTES = 40,
     BUONGILACH_CONSIST_BYTES = 16,
     BUONGILACH_SAMPLE_BYTES = 20,
     BUONGILACH_DECISION_BYTES = 8,
@@ -53,7 +53,7 @@ enum {
 /* What a call answers. docs/MOUNTING.md says what each asks of the caller. */
 enum buongilach_refusal {
     BUONGILACH_ACCEPTED = 0,
-    BUONGILACH_NO_SESSION = 1,     /* a sample, and the session's bytes are no open session's */
+    BUONGILACH_NO_SESSION = 1,     /* a sample, and no open session's record stands at the front of the session's bytes */
     BUONGILACH_WRONG_LENGTH = 2,   /* a consist is not 16 bytes, a sample not 20, a decision that is read not 8 */
     BUONGILACH_WRONG_MARK = 3,     /* a wrong mark; a sample's spare bit set, or its rear lost with rear bits not zero */
     BUONGILACH_OUT_OF_RANGE = 4,   /* a field of a consist or a decision; a sample's time or head over 24 bits (writer) */
@@ -89,23 +89,28 @@ enum buongilach_number {
 /* ---- the session */
 
 /*
- * Opens a session: writes its 36 bytes to the front of `session`, whatever stood there.
- * Refuses 2, 4, 5 (the consist), 12 (`session` under 36 bytes). Refused, an earlier session stays as it was.
+ * A session is a record of 40 bytes at the front of a buffer of 40 or more. No call reads or writes a byte past it. Its last four
+ * bytes check the others: a record in which one byte or two were changed, wherever, is no open session's; where more were
+ * changed, only chance makes it one.
+ */
+
+/*
+ * Opens a session: writes its record, whatever stood there.
+ * Refuses 2, 4, 5 (the consist), 12 (`session` under 40 bytes). Refused, an earlier session stays as it was.
  */
 uint8_t buongilach_open(uint8_t *session, size_t session_bytes, const uint8_t *consist, size_t consist_bytes);
 
 /*
- * Judges a sample. `session` is exactly the 36 bytes that an opening or the last accepted sample left; any other bytes, and any
- * other length, are refused 1 unless they happen to be another open session's. Profile and targets are judged at each call, and
- * the targets may change from call to call. Accepted: the session's 36 bytes are the next session's, and the first 8 of
- * `decision` are the decision.
- * Refuses 1, 2, 3, 6, 7, 8, 9, 10, 11, 12 (`decision` under 8 bytes).
+ * Judges a sample. `session` begins with the record that an opening or the last accepted sample left. Profile and targets are
+ * judged at each call, and the targets may change from call to call. Accepted: the record is the next session's, and the first 8
+ * bytes of `decision` are the decision.
+ * Refuses 1 (no open session's record, or `session` under 40 bytes), 2, 3, 6, 7, 8, 9, 10, 11, 12 (`decision` under 8 bytes).
  */
 uint8_t buongilach_sample(uint8_t *session, size_t session_bytes, const uint8_t *sample, size_t sample_bytes,
                           const uint8_t *profile, size_t profile_bytes, const uint8_t *targets, size_t targets_bytes,
                           uint8_t *decision, size_t decision_bytes);
 
-/* Whether these bytes, all of them, are an open session's: whether `buongilach_sample` would not refuse them 1. */
+/* Whether an open session's record stands at the front of these bytes: whether `buongilach_sample` would not refuse them 1. */
 bool buongilach_is_open(const uint8_t *session, size_t session_bytes);
 
 /* ---- the records: each is written from numbers, and judged as a sample call or an opening would judge it */
@@ -148,11 +153,11 @@ uint8_t buongilach_judge_targets(const uint8_t *targets, size_t targets_bytes);
 
 /*
  * Writes a sample to the first 20 bytes of `out`: time in seconds and head location (both below 2 to the 24th), then the bits of
- * a binary32 each: speed in mph (0 to 100), front and rear brake pipe pressure in psi (0 to 160). A rear that is lost has
- * `present` false and `rear` 0.
+ * a binary32 each: speed in mph (0 to 100), front and rear brake pipe pressure in psi (0 to 160). Any `present` but 0 says that
+ * the rear is present. A rear that is lost has `present` 0 and `rear` 0.
  * Refuses 3 (lost, and `rear` not 0), 4, 8, 12.
  */
-uint8_t buongilach_write_sample(uint32_t time, uint32_t head, uint32_t speed, uint32_t front, bool present, uint32_t rear,
+uint8_t buongilach_write_sample(uint32_t time, uint32_t head, uint32_t speed, uint32_t front, uint32_t present, uint32_t rear,
                                 uint8_t *out, size_t out_bytes);
 
 /* 0, or 2, 3, 8. */

@@ -30,17 +30,38 @@ uint8_t buongilach_open(uint8_t *session, size_t session_bytes, const uint8_t *c
         session[0] = 0;
     if (planted("open: 12 first") && session_bytes < BUONGILACH_SESSION_BYTES)
         return 12;
-    if (planted("open: B not 0"))
-        due[11] = 1;
+    if (planted("open: B not 0")) {
+        second_put_bits(due, 56, 16, 1);
+        expected_seal(due);
+    }
     return (uint8_t)written(answer, session, due, BUONGILACH_SESSION_BYTES);
 }
 
 bool buongilach_is_open(const uint8_t *session, size_t session_bytes)
 {
     second_session held;
-    if (planted("is_open: by the mark") && session_bytes == BUONGILACH_SESSION_BYTES)
-        return session[0] == 0x42 && session[1] == 0x53;
+    if (planted("is_open: by the mark") && session_bytes >= BUONGILACH_SESSION_BYTES)
+        return session[0] == 0x42 && session[1] == 0x54;
+    if (planted("is_open: 40 bytes only") && session_bytes > BUONGILACH_SESSION_BYTES)
+        return false;
     return expected_held(part_of(session, session_bytes), &held);
+}
+
+/* The record that a library takes which does not look at everything; it stands until the next call. */
+static const uint8_t *taken(const uint8_t *session, size_t session_bytes)
+{
+    static uint8_t record[BUONGILACH_SESSION_BYTES];
+    second_session held;
+    if (session_bytes < sizeof record || expected_held(part_of(session, session_bytes), &held))
+        return session;
+    memcpy(record, session, sizeof record);
+    expected_seal(record);
+    if (planted("sample: the check word unread"))
+        return record;
+    bool sealed = memcmp(record, session, sizeof record) == 0;
+    second_put_bits(record, 20, 1, 1);
+    expected_seal(record);
+    return planted("sample: an opening with any brakes") && sealed ? record : session;
 }
 
 uint8_t buongilach_sample(uint8_t *session, size_t session_bytes, const uint8_t *sample, size_t sample_bytes,
@@ -49,24 +70,30 @@ uint8_t buongilach_sample(uint8_t *session, size_t session_bytes, const uint8_t 
 {
     uint8_t next[BUONGILACH_SESSION_BYTES];
     uint8_t due[BUONGILACH_DECISION_BYTES + 1] = {0};
-    if (planted("sample: 36 bytes or more") && session_bytes > BUONGILACH_SESSION_BYTES)
-        session_bytes = BUONGILACH_SESSION_BYTES;
+    if (planted("sample: 40 bytes only") && session_bytes > BUONGILACH_SESSION_BYTES)
+        return 1;
     if (planted("sample: 12 before 3") && decision_bytes < BUONGILACH_DECISION_BYTES && sample_bytes == BUONGILACH_SAMPLE_BYTES
         && buongilach_is_open(session, session_bytes))
         return 12;
     if (planted("sample: reads a byte too many"))
         due[0] = ((const volatile uint8_t *)sample)[sample_bytes];
     unsigned answer =
-        expected_sample(part_of(session, session_bytes), part_of(sample, sample_bytes), part_of(profile, profile_bytes),
-                        part_of(targets, targets_bytes), decision_bytes, next, due);
+        expected_sample(part_of(taken(session, session_bytes), session_bytes), part_of(sample, sample_bytes),
+                        part_of(profile, profile_bytes), part_of(targets, targets_bytes), decision_bytes, next, due);
+    if (planted("sample: a byte past the session") && answer == 0 && session_bytes > sizeof next)
+        session[sizeof next] ^= 1;
     if (planted("sample: a ninth byte") && answer == 0)
         decision[BUONGILACH_DECISION_BYTES] = 0;
-    if (planted("sample: time kept when refused") && answer == 10)
-        memcpy(session + 3, sample + 1, 3);
+    if (planted("sample: time kept when refused") && answer == 10) {
+        memcpy(session + 17, sample + 1, 3);
+        expected_seal(session);
+    }
     if (planted("sample: decision written when refused") && answer == 9)
         memset(decision, 0x44, decision_bytes);
-    if (planted("sample: the last rear lost"))
-        next[19] = 0;
+    if (planted("sample: the last rear lost") && answer == 0) {
+        second_put_bits(next, 120, 16, 0);
+        expected_seal(next);
+    }
     if (planted("sample: the session stays") && answer == 0)
         memcpy(next, session, sizeof next);
     written(answer, decision, due, BUONGILACH_DECISION_BYTES);
@@ -126,12 +153,14 @@ uint8_t buongilach_judge_targets(const uint8_t *targets, size_t targets_bytes)
     return (uint8_t)expected_judge_targets(part_of(targets, targets_bytes));
 }
 
-uint8_t buongilach_write_sample(uint32_t time, uint32_t head, uint32_t speed, uint32_t front, bool present, uint32_t rear,
+uint8_t buongilach_write_sample(uint32_t time, uint32_t head, uint32_t speed, uint32_t front, uint32_t present, uint32_t rear,
                                 uint8_t *out, size_t out_bytes)
 {
     const uint32_t fields[6] = {time, head, speed, front, present, rear};
     uint8_t due[BUONGILACH_SAMPLE_BYTES] = {0};
     unsigned answer = expected_write_sample(fields, out_bytes, due);
+    if (planted("write_sample: present in a byte") && answer == 0 && (uint8_t)present == 0)
+        second_put_bits(due, 32, 1, 0);
     if (planted("write_sample: 8 before 3") && answer == 3 && rear == 0x7FC00000)
         return 8;
     return (uint8_t)written(answer, out, due, sizeof due);

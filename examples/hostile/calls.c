@@ -67,9 +67,9 @@ unsigned try_open(part session_before, part consist_given, uint8_t *opened)
     hold_read(&consist, "open");
     hold_written(&session, due, wanted == 0 ? sizeof due : 0, "open");
     if (answer == 0) {
-        hold(buongilach_is_open(session.bytes, BUONGILACH_SESSION_BYTES), "is_open", "denies an opened session");
+        hold(buongilach_is_open(session.bytes, session.count), "is_open", "denies an opened session");
         if (opened != NULL)
-            memcpy(opened, session.bytes, BUONGILACH_SESSION_BYTES);
+            memcpy(opened, session.bytes, session.count);
     }
     return answer;
 }
@@ -80,10 +80,12 @@ static void count_sample(unsigned answer, uint8_t *next)
     tried.answers[answer < 13 ? answer : 0]++;
     if (answer != 0)
         return;
+    second_session held;
     hold(buongilach_is_open(session.bytes, session.count), "is_open", "denies the session after a sample");
-    tried.states[session.bytes[2] / 32 % 6]++;
+    if (expected_held(part_of(session.bytes, session.count), &held))
+        tried.states[held.brakes.state]++;
     if (next != NULL)
-        memcpy(next, session.bytes, BUONGILACH_SESSION_BYTES);
+        memcpy(next, session.bytes, session.count);
 }
 
 unsigned try_sample(part session_before, part sample_given, part profile_given, part targets_given, part decision_before,
@@ -181,7 +183,7 @@ unsigned try_write_sample(const uint32_t *fields, part out_before)
     uint8_t due[BUONGILACH_SAMPLE_BYTES];
     unsigned wanted = expected_write_sample(fields, out_before.count, due);
     lend(&out, out_before);
-    unsigned answer = buongilach_write_sample(fields[0], fields[1], fields[2], fields[3], fields[4] != 0, fields[5], out.bytes,
+    unsigned answer = buongilach_write_sample(fields[0], fields[1], fields[2], fields[3], fields[4], fields[5], out.bytes,
                                               out.count);
     hold_answer(answer, wanted, "write_sample");
     hold_written(&out, due, wanted == 0 ? sizeof due : 0, "write_sample");

@@ -17,7 +17,8 @@ extern tally tried;
 
 void calls_make(void);
 
-/* Each answers what the library answered. What is written to is given as the part that stands there before the call. */
+/* Each answers what the library answered. What is written to is given as the part that stands there before the call; `opened` and
+ * `next` take the whole session buffer after an accepted one. */
 unsigned try_open(part session, part consist, uint8_t *opened);
 unsigned try_sample(part session, part sample, part profile, part targets, part decision, uint8_t *next);
 void try_judges(part consist, part sample, part profile, part targets);

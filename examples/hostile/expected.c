@@ -5,19 +5,40 @@
 
 #include <string.h>
 
-enum { MARK = 0x4253, MOST_PRESSURE = 16000, MOST_B = 9434, MOST_FALL = 3142, MOST_CAUSE = 8, BITS_24 = 1 << 24 };
+enum { MARK = 0x4254, MOST_PRESSURE = 16000, MOST_B = 9434, MOST_FALL = 3142, MOST_CAUSE = 8, BITS_24 = 1 << 24 };
 
 /* ---- the session's record */
 
-/* Where each field begins, and its width: mark, state, sampled, cause, last time, hold, A, B, equalization, fall, last front and
- * last rear; the consist follows at byte 20. */
-static const int held_at[12] = {0, 16, 19, 20, 24, 48, 64, 80, 96, 112, 128, 144};
-static const int held_width[12] = {16, 3, 1, 4, 24, 16, 16, 16, 16, 16, 16, 16};
-enum { HELD_CONSIST = 20 };
+/* Where each field begins, and its width: mark, cause, sampled, state, hold, A, B, equalization, fall, last front, last rear and
+ * last time; the consist follows at byte 20, the check word at byte 36. */
+static const int held_at[12] = {0, 16, 20, 21, 24, 40, 56, 72, 88, 104, 120, 136};
+static const int held_width[12] = {16, 4, 1, 3, 16, 16, 16, 16, 16, 16, 16, 24};
+enum { HELD_CONSIST = 20, HELD_CHECK = 36 };
 
 static int64_t held_field(const uint8_t *bytes, int place)
 {
     return second_bits(bytes, held_at[place], held_width[place]);
+}
+
+/* The bytes' sum, and the sum that counts each as often as there are bytes from it on, both modulo 2 to the 16th. */
+static int64_t check_of(const uint8_t *bytes, int count)
+{
+    int64_t sum = 0, weighed = 0;
+    for (int i = 0; i < count; i++) {
+        sum += bytes[i];
+        weighed += (int64_t)(count - i) * bytes[i];
+    }
+    return sum % 65536 * 65536 + weighed % 65536;
+}
+
+void expected_seal(uint8_t *bytes)
+{
+    second_put_bits(bytes + HELD_CHECK, 0, 32, check_of(bytes, HELD_CHECK));
+}
+
+static bool is_sealed(const uint8_t *bytes)
+{
+    return second_bits(bytes + HELD_CHECK, 0, 32) == check_of(bytes, HELD_CHECK);
 }
 
 /* A and B together, by state (crates/brake/specs/Sound.antt, `isBalanced`). */
@@ -47,31 +68,44 @@ static bool is_sound(const second_brakes *k, int64_t set)
         && is_balanced(k, set);
 }
 
+/* `isOpened` of crates/brake/specs/Brake.antt: what an opening gives. */
+static bool is_opened(const second_brakes *k, int64_t set)
+{
+    return k->state == 0 && k->hold == set && k->a == set && k->b == 0 && k->equalization == 0 && k->fall == 0
+        && k->last_front == 0 && k->last_rear == 0 && k->last_time == 0;
+}
+
+/* `isOpen` of crates/session: before the first sample the brakes are an opening's, and there is no cause. */
+static bool is_session(const second_session *session)
+{
+    return is_sound(&session->brakes, session->train.set) && session->cause <= MOST_CAUSE
+        && (session->begun || (is_opened(&session->brakes, session->train.set) && session->cause == 0));
+}
+
 static void read_brakes(const uint8_t *bytes, second_brakes *k)
 {
-    k->state = held_field(bytes, 1);
-    k->last_time = held_field(bytes, 4);
-    k->hold = held_field(bytes, 5);
-    k->a = held_field(bytes, 6);
-    k->b = held_field(bytes, 7);
-    k->equalization = held_field(bytes, 8);
-    k->fall = held_field(bytes, 9);
-    k->last_front = held_field(bytes, 10);
-    k->last_rear = held_field(bytes, 11);
+    k->state = held_field(bytes, 3);
+    k->hold = held_field(bytes, 4);
+    k->a = held_field(bytes, 5);
+    k->b = held_field(bytes, 6);
+    k->equalization = held_field(bytes, 7);
+    k->fall = held_field(bytes, 8);
+    k->last_front = held_field(bytes, 9);
+    k->last_rear = held_field(bytes, 10);
+    k->last_time = held_field(bytes, 11);
 }
 
 bool expected_held(part bytes, second_session *session)
 {
     const uint8_t *at = bytes.bytes;
-    if (bytes.count != BUONGILACH_SESSION_BYTES || held_field(at, 0) != MARK)
+    if (bytes.count < BUONGILACH_SESSION_BYTES || held_field(at, 0) != MARK || !is_sealed(at))
         return false;
     memset(session, 0, sizeof *session);
     session->open = 1;
+    session->cause = held_field(at, 1);
     session->begun = (int)held_field(at, 2);
-    session->cause = held_field(at, 3);
     read_brakes(at, &session->brakes);
-    return second_read_consist(at + HELD_CONSIST, BUONGILACH_CONSIST_BYTES, &session->train) == 0
-        && is_sound(&session->brakes, session->train.set) && session->cause <= MOST_CAUSE;
+    return second_read_consist(at + HELD_CONSIST, BUONGILACH_CONSIST_BYTES, &session->train) == 0 && is_session(session);
 }
 
 static void put_consist(const second_consist *train, uint8_t *record)
@@ -89,11 +123,12 @@ static void put_consist(const second_consist *train, uint8_t *record)
 void expected_bytes(const second_session *session, uint8_t *bytes)
 {
     const second_brakes *k = &session->brakes;
-    const int64_t fields[12] = {MARK, k->state, session->begun, session->cause, k->last_time, k->hold,
-                                k->a, k->b, k->equalization, k->fall, k->last_front, k->last_rear};
+    const int64_t fields[12] = {MARK, session->cause, session->begun, k->state, k->hold, k->a,
+                                k->b, k->equalization, k->fall, k->last_front, k->last_rear, k->last_time};
     for (int i = 0; i < 12; i++)
         second_put_bits(bytes, held_at[i], held_width[i], fields[i]);
     put_consist(&session->train, bytes + HELD_CONSIST);
+    expected_seal(bytes);
 }
 
 /* ---- the session */
@@ -208,7 +243,7 @@ unsigned expected_judge_sample(part sample)
 unsigned expected_write_sample(const uint32_t *fields, size_t room, uint8_t *record)
 {
     static const int widths[8] = {8, 24, 1, 7, 24, 32, 32, 32};
-    const int64_t values[8] = {0x53, fields[0], fields[4], 0, fields[1], fields[2], fields[3], fields[5]};
+    const int64_t values[8] = {0x53, fields[0], fields[4] != 0, 0, fields[1], fields[2], fields[3], fields[5]};
     if (fields[4] == 0 && fields[5] != 0)
         return 3;
     if (fields[0] >= BITS_24 || fields[1] >= BITS_24)

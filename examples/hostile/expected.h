@@ -10,11 +10,14 @@
 
 #include "buongilach.h"
 
-/* Whether the bytes are an open session's, and that session. */
+/* Whether the front of the bytes is an open session's record, and that session. */
 bool expected_held(part bytes, second_session *session);
 
-/* The 36 bytes of an open session. */
+/* The 40 bytes of a session, open or not. */
 void expected_bytes(const second_session *session, uint8_t *bytes);
+
+/* Puts the check word of the 36 bytes before it. */
+void expected_seal(uint8_t *bytes);
 
 /* Each answers the refusal or 0; the bytes that an accepted call writes are in the last arguments. */
 unsigned expected_open(size_t room, part consist, uint8_t *session);
@@ -30,7 +33,7 @@ unsigned expected_judge_profile(part profile);
 unsigned expected_write_targets(part locations, part speeds, size_t room, uint8_t *records);
 unsigned expected_judge_targets(part targets);
 
-/* time, head, speed, front, present, rear */
+/* time, head, speed, front, present (any value but 0), rear */
 unsigned expected_write_sample(const uint32_t *fields, size_t room, uint8_t *record);
 unsigned expected_judge_sample(part sample);
 unsigned expected_read_decision(part decision, size_t room, uint32_t *numbers);

@@ -21,14 +21,20 @@ static void try_writer_of_consists(void)
     try_write_consist(consist, made_part(made_below(LONGEST)));
 }
 
+/* Any number but 0, often one that a narrower type would cut to 0. */
+static uint32_t made_present(void)
+{
+    return made_once_in(2) ? 1 : 1u << made_below(32) | made_below(2) << 31;
+}
+
 /* time, head, speed, front, present, rear */
 static void try_writer_of_samples(void)
 {
-    static const uint32_t most[6] = {16777215, 16777215, 10000, 16000, 1, 16000};
+    static const uint32_t most[6] = {16777215, 16777215, 10000, 16000, 0, 16000};
     uint32_t sample[6];
     for (int i = 0; i < 6; i++)
         sample[i] = made_about(0, most[i]);
-    sample[4] %= 2;
+    sample[4] = made_once_in(2) ? made_present() : 0;
     for (int i = 2; i < 6; i++)
         if (i != 4)
             sample[i] = made_once_in(8) ? made_odd_reading() : made_reading(sample[i]);

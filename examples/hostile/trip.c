@@ -14,8 +14,10 @@ static void make_sample(trip *t)
 
 void trip_begin(trip *t, uint32_t fastest)
 {
-    uint8_t before[BUONGILACH_SESSION_BYTES];
+    static const size_t rooms[] = {BUONGILACH_SESSION_BYTES, BUONGILACH_SESSION_BYTES + 1, SESSION_ROOM};
+    uint8_t before[SESSION_ROOM];
     made_noise(before, sizeof before);
+    t->session_bytes = rooms[made_below(sizeof rooms / sizeof *rooms)];
     made_consist(t->consist, &t->length);
     t->head = t->length + made_below(100000);
     t->profile_bytes = made_profile(t->profile, t->head + 1000, t->length + 1000);
@@ -25,7 +27,7 @@ void trip_begin(trip *t, uint32_t fastest)
     t->speed = made_below(fastest + 1);
     t->front = (uint32_t)made_between(7000, 11000);
     make_sample(t);
-    try_open(part_of(before, sizeof before), part_of(t->consist, sizeof t->consist), t->session);
+    try_open(part_of(before, t->session_bytes), part_of(t->consist, sizeof t->consist), t->session);
 }
 
 /* A pipe pressure that stays, sinks, falls fast or rises. */
@@ -40,7 +42,7 @@ void trip_go(trip *t)
 {
     uint8_t decision[BUONGILACH_DECISION_BYTES] = {0};
     unsigned refusal =
-        try_sample(part_of(t->session, sizeof t->session), part_of(t->sample, sizeof t->sample),
+        try_sample(part_of(t->session, t->session_bytes), part_of(t->sample, sizeof t->sample),
                    part_of(t->profile, t->profile_bytes), part_of(t->targets, t->targets_bytes),
                    part_of(decision, sizeof decision), t->session);
     /* out of time, or off the profile */
@@ -64,7 +66,7 @@ bool trip_to_state(trip *t, unsigned state, uint32_t fastest)
         if (samples % 40 == 0)
             trip_begin(t, fastest);
         trip_go(t);
-        if (expected_held(part_of(t->session, sizeof t->session), &held) && held.begun && held.brakes.state == state)
+        if (expected_held(part_of(t->session, t->session_bytes), &held) && held.begun && held.brakes.state == state)
             return true;
     }
     return false;

@@ -6,8 +6,11 @@
 
 #include "calls.h"
 
+enum { SESSION_ROOM = 64 };
+
 typedef struct {
-    uint8_t session[BUONGILACH_SESSION_BYTES];
+    uint8_t session[SESSION_ROOM]; /* the record at its front, and noise */
+    size_t session_bytes;          /* as many as the calls are lent */
     uint8_t consist[BUONGILACH_CONSIST_BYTES];
     uint8_t profile[BUONGILACH_PROFILE_BYTES_MOST];
     uint8_t targets[BUONGILACH_TARGETS_BYTES_MOST];

@@ -1,5 +1,6 @@
 -- Laws of the air brakes.
 pub mod StateNumbers
+pub mod Told
 pub mod Falls
 pub mod Sound
 pub mod Tested

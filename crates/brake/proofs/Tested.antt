@@ -1,4 +1,4 @@
--- The test of the invariant says exactly that it holds. Assumes nothing.
+-- The test of the invariant says exactly that it holds, and the test of an opening finds the brake of one. Assumes nothing.
 use mathlib.Core.Path.{_≡_, refl}
 use mathlib.Core.Bool.{Bool, true, false, _&&_, false≢true}
 use mathlib.Core.Logic.{_↔_}
@@ -9,7 +9,10 @@ use Rattle.consist.specs.declared.Consist.{Consist}
 use Rattle.brake.specs.declared.State.{State}
 use Rattle.brake.specs.declared.State.the-variants.{Charged, ApplyingService, HoldingService, ApplyingEmergency, HoldingEmergency, Charging}
 use Rattle.brake.specs.declared.Brake.{Brake}
+use Rattle.brake.specs.State.{stateNumber}
+use Rattle.brake.specs.Brake.{opened, isOpened}
 use Rattle.brake.specs.Sound.{mostPressure, mostTime, mostB, mostFall, Balance, isBalanced, Sound, isSound}
+use Rattle.brake.proofs.Told.{brake-one}
 
 at-most : (x y : ℕ) → (leb x y ≡ true) ↔ (x ≤ y)
 at-most x y = (leb-true x y, le-leb x y)
@@ -49,3 +52,26 @@ sound-is c k =
           record { a = a; b = b; equalization = equalization; fall = fall; hold = hold; front = front; rear = rear; time = time; balance = balance },
       λ s. all .1 ((((((((s .a, s .b), s .equalization), s .fall), s .hold), s .front), s .rear), s .time), s .balance),
     )
+
+-- ---- the brake of an opening
+
+pub opened-passes : (c : Consist) → isOpened c (opened c) ≡ true
+unfolding isOpened
+opened-passes c = rw (eq-eqb (c .set) (c .set) refl)
+
+-- of a session that has taken no sample
+pub is-opened : (c : Consist) (k : Brake) → isOpened c k ≡ true → k .sampled ≡ false → k ≡ opened c
+unfolding isOpened
+is-opened c k h sampled =
+    let all =
+    same (stateNumber (k .state)) 0
+    ⊗ same (k .hold) (c .set)
+    ⊗ same (k .a) (c .set)
+    ⊗ same (k .b) 0
+    ⊗ same (k .equalization) 0
+    ⊗ same (k .fall) 0
+    ⊗ same (k .«last_front») 0
+    ⊗ same (k .«last_rear») 0
+    ⊗ same (k .«last_time») 0 in
+    let ((((((((state, hold), a), b), equalization), fall), front), rear), time) = all .0 h in
+    brake-one k (opened c) (rw (state, hold, a, b, equalization, fall, front, rear, time, sampled))

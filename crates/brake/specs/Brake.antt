@@ -1,10 +1,30 @@
--- What is held: a new session's brake, and the change of one field. Definitions only.
+-- What is held: as the paper lists it, a new session's brake, and the change of one field. Definitions only.
 use Prim.Native.Nat.{ℕ}
-use mathlib.Core.Bool.{true, false}
+use mathlib.Core.Bool.{Bool, true, false, _&&_}
+use mathlib.Core.List.{List, [], _∷_}
+use lib.Dec.{eqb}
+use Rattle.bits.specs.Fields.{bit}
 use Rattle.consist.specs.declared.Consist.{Consist}
 use Rattle.brake.specs.declared.State.{State}
 use Rattle.brake.specs.declared.State.the-variants.{Charged}
 use Rattle.brake.specs.declared.Brake.{Brake}
+use Rattle.brake.specs.State.{stateNumber}
+
+-- "Held: state, .. hold (pipe pressure), A (average auxiliary reservoir), B (average cylinder), equalization, fall per second,
+-- last front, last rear, last time", and whether a sample was accepted; the set pressure is the consist's
+abbrev pub brakeTold : Brake → List ℕ
+brakeTold k =
+    stateNumber (k .state)
+    ∷ k .hold
+    ∷ k .a
+    ∷ k .b
+    ∷ k .equalization
+    ∷ k .fall
+    ∷ k .«last_front»
+    ∷ k .«last_rear»
+    ∷ k .«last_time»
+    ∷ bit (k .sampled)
+    ∷ []
 
 -- "Opening gives state 0, hold = A = set, B = 0, fall 0, equalization 0."
 abbrev pub opened : Consist → Brake
@@ -20,6 +40,19 @@ opened c = record {
   «last_time» = 0;
   sampled = false;
 }
+
+-- what is held is what an opening gives, whether or not a sample was accepted
+unfoldable pub isOpened : Consist → Brake → Bool
+isOpened c k =
+    eqb (stateNumber (k .state)) 0
+    && eqb (k .hold) (c .set)
+    && eqb (k .a) (c .set)
+    && eqb (k .b) 0
+    && eqb (k .equalization) 0
+    && eqb (k .fall) 0
+    && eqb (k .«last_front») 0
+    && eqb (k .«last_rear») 0
+    && eqb (k .«last_time») 0
 
 -- ---- only the fields that a rule names change: the brake k with another value in one field
 

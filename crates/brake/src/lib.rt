@@ -9,7 +9,7 @@ use consist::Consist;
 use sample::RearPressure;
 ghost use mathlib.Core.Path.{_≡_};
 ghost use Rattle.brake.specs.State.{stateNumber};
-ghost use Rattle.brake.specs.Brake.{opened};
+ghost use Rattle.brake.specs.Brake.{opened, isOpened};
 ghost use Rattle.brake.specs.Rules.{updateOf};
 ghost use Rattle.brake.specs.Sound.{Ready};
 
@@ -96,6 +96,22 @@ impl Brake {
             last_time: 0,
             sampled: false,
         }
+    }
+
+    // Whether what is held is what an opening gives, whether or not a sample was accepted.
+    pub fn is_opened(self, c: Consist) -> bool
+        ensures { λ t. ⌜ t ≡ isOpened c self ⌝ }
+    {
+        let state = self.state;
+        (state_number(state) == 0)
+            & (self.hold == c.set)
+            & (self.a == c.set)
+            & (self.b == 0)
+            & (self.equalization == 0)
+            & (self.fall == 0)
+            & (self.last_front == 0)
+            & (self.last_rear == 0)
+            & (self.last_time == 0)
     }
 
     // The brake after one accepted sample, of which no rule reads more than these.

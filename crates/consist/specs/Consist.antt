@@ -2,22 +2,28 @@
 use Prim.Native.Nat.{ℕ, _*_}
 use mathlib.Core.List.{List, [], _∷_, _++_}
 use mathlib.Core.Bool.{Bool, not, _&&_}
-use lib.ListN.{length, getD}
-use lib.Dec.{ltb, eqb}
+use lib.ListN.{getD}
+use lib.Dec.{ltb}
 use Rattle.bits.specs.Bytes.{fieldsIn, bytesFrom}
 use Rattle.bits.specs.Ranges.{inside}
+use Rattle.record.specs.Record.{wrongLength}
 use Rattle.refusal.specs.Lowest.{Rule, lowest}
 use Rattle.refusal.specs.Written.{noRoom, written}
 use Rattle.refusal.specs.declared.Refusal.the-variants.{WrongLength, OutOfRange, TooLight, NoRoom}
 use Rattle.refusal.specs.declared.Verdict.{Verdict}
-use Rattle.refusal.specs.declared.Verdict.the-variants as verdict
+use Rattle.refusal.specs.declared.Verdict.the-variants.{Refused}
+use Rattle.refusal.specs.declared.Refusal.{Refusal}
+use Rattle.refusal.specs.Steps.{kept}
 use Rattle.consist.specs.declared.Consist.{Consist}
-use Rattle.consist.specs.declared.Answer.{Answer}
-use Rattle.consist.specs.declared.Answer.the-variants.{Accepted, Refused}
+
+-- 16 bytes
+abbrev pub size : ℕ
+size = 16
 
 -- cars, axles, weight, length in feet, rated brake force in lb, application time in ms, recharge per second, set pressure, target offset in feet
 abbrev pub fieldsOf : Consist → List ℕ
-fieldsOf c = c .cars ∷ c .axles ∷ c .weight ∷ c .length ∷ c .rated ∷ c .application ∷ c .recharge ∷ c .set ∷ c .offset ∷ []
+fieldsOf c =
+    c .cars ∷ c .axles ∷ c .weight ∷ c .length ∷ c .rated ∷ c .application ∷ c .recharge ∷ c .set ∷ c .offset ∷ []
 
 abbrev pub widths : List ℕ
 widths = 9 ∷ 11 ∷ 15 ∷ 15 ∷ 24 ∷ 18 ∷ 10 ∷ 14 ∷ 12 ∷ []
@@ -44,11 +50,7 @@ unfoldable pub consistIn : List ℕ → Consist
 consistIn s = ofFields (fieldsIn widths s)
 
 unfoldable pub bytesOf : Consist → List ℕ
-bytesOf c = bytesFrom 16 widths (fieldsOf c)
-
--- 2: a consist is not 16 bytes
-unfoldable pub wrongLength : List ℕ → Bool
-wrongLength s = not (eqb (length s) 16)
+bytesOf c = bytesFrom size widths (fieldsOf c)
 
 unfoldable pub inRange : Consist → Bool
 inRange c = inside ranges (fieldsOf c)
@@ -69,20 +71,27 @@ isSound c = inRange c && not (tooLight c)
 abbrev pub rules : Consist → List Rule
 rules c = (outOfRange c, OutOfRange) ∷ (tooLight c, TooLight) ∷ []
 
--- the paper's number and values: the lowest refusal, or the consist
-abbrev pub answer : Verdict → Consist → Answer
-answer verdict.Accepted c = Accepted c
-answer (verdict.Refused r) c = Refused r
+-- the consist of an answer that refuses
+abbrev pub none : Consist
+none = ofFields []
 
+-- the lowest refusal, or the consist
+abbrev pub answer : Verdict → Consist → Verdict × Consist
+answer v c = (v, kept v c none)
+
+abbrev pub refusedWith : Refusal → Verdict × Consist
+refusedWith r = answer (Refused r) none
+
+-- 2: a consist is not 16 bytes
 abbrev pub readRules : List ℕ → List Rule
-readRules s = (wrongLength s, WrongLength) ∷ rules (consistIn s)
+readRules s = (wrongLength size s, WrongLength) ∷ rules (consistIn s)
 
-unfoldable pub readConsist : List ℕ → Answer
+unfoldable pub readConsist : List ℕ → Verdict × Consist
 readConsist s = answer (lowest (readRules s)) (consistIn s)
 
 -- "Writers refuse what the reader would, with its number, touching nothing, and never touch bytes past the record."
 abbrev pub writeRules : Consist → List ℕ → List Rule
-writeRules c out = rules c ++ (noRoom 16 out, NoRoom) ∷ []
+writeRules c out = rules c ++ (noRoom size out, NoRoom) ∷ []
 
 unfoldable pub writeConsist : Consist → List ℕ → Verdict × List ℕ
 writeConsist c out = written (lowest (writeRules c out)) (bytesOf c) out

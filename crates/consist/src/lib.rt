@@ -1,11 +1,12 @@
 // The consist: a record of 16 bytes.
 use refusal::Refusal;
+use refusal::Step;
 use refusal::Verdict;
 ghost use mathlib.Core.Path.{_≡_};
-ghost use Prim.Native.Nat.{_+_, _*_, _^_};
-ghost use Rattle.bits.specs.Fields.{split, Fit};
-ghost use Rattle.consist.specs.Consist.{widths, fieldsOf, ofFields, inRange, outOfRange, tooLight, isSound, readConsist, writeConsist};
-ghost use Rattle.consist.specs.Steps.{wordsOf, unless, highWord, lowWord};
+ghost use lib.ListN.{take, drop};
+ghost use Rattle.bits.specs.Places.{fieldsFrom, putFrom};
+ghost use Rattle.refusal.specs.Number.{told};
+ghost use Rattle.consist.specs.Consist.{widths, fieldsOf, ofFields, inRange, tooLight, isSound, refusedWith, readConsist, writeConsist};
 
 pub struct Consist {
     pub cars: u16,
@@ -26,49 +27,49 @@ pub struct Consist {
     pub offset: u16,
 }
 
-// What reading a consist answers.
-pub enum Answer {
-    Accepted(Consist),
-    Refused(Refusal),
+impl Consist {
+    // Bytes of the record.
+    pub const SIZE: usize = 16;
 }
 
-// What a step of reading or writing finds: the consist to go on with, or nothing.
-pub enum Step {
-    On(Consist),
-    Off,
+// What reading a consist answers; where it is refused, the consist is all zero.
+pub struct Answer {
+    pub verdict: Verdict,
+    pub consist: Consist,
 }
 
-// The 128 bits of a record.
-pub enum Words {
-    Two(u64, u64),
-    Wrong,
-}
-
-fn words_of(s: &[u8]) -> Words
-    ensures { λ r. ⌜ r ≡ wordsOf (now (s .entry)) ⌝ }
+fn refused(r: Refusal) -> Answer
+    ensures { λ a. ⌜ (a .verdict, a .consist) ≡ refusedWith r ⌝ }
 {
-    if s.len() != 16 {
-        return Words::Wrong;
+    Answer {
+        verdict: Verdict::Refused(r),
+        consist: Consist {
+            cars: 0,
+            axles: 0,
+            weight: 0,
+            length: 0,
+            rated: 0,
+            application: 0,
+            recharge: 0,
+            set: 0,
+            offset: 0,
+        },
     }
-    let high = bits::word(&s[0..8]);
-    let low = bits::word(&s[8..16]);
-    Words::Two(high, low)
 }
 
-// The consist of the bits of two words; the rated force has 14 in the first and 10 in the second.
-fn of_words(high: u64, low: u64) -> Consist
-    ensures { λ r. ⌜ r ≡ ofFields (split widths (high * 2 ^ 64 + low)) ⌝ }
+fn of_bytes(s: &[u8]) -> Consist
+    ensures { λ r. ⌜ r ≡ ofFields (fieldsFrom 0 widths (now (s .entry))) ⌝ }
 {
     Consist {
-        cars: (high / 0x80_0000_0000_0000 % 0x200) as u16,
-        axles: (high / 0x1000_0000_0000 % 0x800) as u16,
-        weight: (high / 0x2000_0000 % 0x8000) as u16,
-        length: (high / 0x4000 % 0x8000) as u16,
-        rated: (high % 0x4000 * 0x400 + low / 0x40_0000_0000_0000 % 0x400) as u32,
-        application: (low / 0x10_0000_0000 % 0x4_0000) as u32,
-        recharge: (low / 0x400_0000 % 0x400) as u16,
-        set: (low / 0x1000 % 0x4000) as u16,
-        offset: (low % 0x1000) as u16,
+        cars: bits::field(s, 0, 9) as u16,
+        axles: bits::field(s, 9, 11) as u16,
+        weight: bits::field(s, 20, 15) as u16,
+        length: bits::field(s, 35, 15) as u16,
+        rated: bits::field(s, 50, 24) as u32,
+        application: bits::field(s, 74, 18) as u32,
+        recharge: bits::field(s, 92, 10) as u16,
+        set: bits::field(s, 102, 14) as u16,
+        offset: bits::field(s, 116, 12) as u16,
     }
 }
 
@@ -93,24 +94,10 @@ fn in_range(c: Consist) -> bool
         & (c.offset <= 4_000)
 }
 
-// The consist, if every field is in its range.
-fn ranged(c: Consist) -> Step
-    ensures { λ r. ⌜ r ≡ unless (outOfRange c) c ⌝ }
-{
-    if in_range(c) { Step::On(c) } else { Step::Off }
-}
-
 fn too_light(c: Consist) -> bool
     ensures { λ r. ⌜ r ≡ tooLight c ⌝ }
 {
     (c.weight as u32) < 10 * c.cars as u32
-}
-
-// The consist, if it has ten tons a car.
-fn weighed(c: Consist) -> Step
-    ensures { λ r. ⌜ r ≡ unless (tooLight c) c ⌝ }
-{
-    if too_light(c) { Step::Off } else { Step::On(c) }
 }
 
 // Whether a consist is one that is not refused.
@@ -121,60 +108,67 @@ pub fn is_sound(c: Consist) -> bool
 }
 
 pub fn read(s: &[u8]) -> Answer
-    ensures { λ r. ⌜ r ≡ readConsist (now (s .entry)) ⌝ }
+    ensures { λ r. ⌜ told (r .verdict, r .consist) ≡ told (readConsist (now (s .entry))) ⌝ }
 {
-    let Words::Two(high, low) = words_of(s) else {
-        return Answer::Refused(Refusal::WrongLength);
+    let Step::On = refusal::unless(s.len() != Consist::SIZE) else {
+        return refused(Refusal::WrongLength);
     };
-    let Step::On(c) = ranged(of_words(high, low)) else {
-        return Answer::Refused(Refusal::OutOfRange);
+    let c = of_bytes(s);
+    let Step::On = refusal::unless(!in_range(c)) else {
+        return refused(Refusal::OutOfRange);
     };
-    let Step::On(c) = weighed(c) else {
-        return Answer::Refused(Refusal::TooLight);
+    let Step::On = refusal::unless(too_light(c)) else {
+        return refused(Refusal::TooLight);
     };
-    Answer::Accepted(c)
+    Answer {
+        verdict: Verdict::Accepted,
+        consist: c,
+    }
 }
 
-// The first 64 bits of the record.
-fn high_word(c: Consist) -> u64
-    requires { ⌜ Fit widths (fieldsOf c) ⌝ }
-    ensures { λ r. ⌜ r ≡ highWord c ⌝ }
+// The first five fields. The record is put in two parts, each short enough to be put without a loop.
+fn put_front(c: Consist, out: &mut [u8])
+    ensures { λ _. ⌜ now (out .exit) ≡ putFrom 0 (take 5 widths) (take 5 (fieldsOf c)) (now (out .entry)) ⌝ }
 {
-    c.cars as u64 * 0x80_0000_0000_0000
-        + c.axles as u64 * 0x1000_0000_0000
-        + c.weight as u64 * 0x2000_0000
-        + c.length as u64 * 0x4000
-        + c.rated as u64 / 0x400
+    let widths = [9, 11, 15, 15, 24];
+    let values = [
+        c.cars as u64,
+        c.axles as u64,
+        c.weight as u64,
+        c.length as u64,
+        c.rated as u64,
+    ];
+    bits::put_fields(out, 0, &widths, &values);
 }
 
-// The last 64 bits.
-fn low_word(c: Consist) -> u64
-    requires { ⌜ Fit widths (fieldsOf c) ⌝ }
-    ensures { λ r. ⌜ r ≡ lowWord c ⌝ }
+// The other four.
+fn put_back(c: Consist, out: &mut [u8])
+    ensures { λ _. ⌜ now (out .exit) ≡ putFrom 74 (drop 5 widths) (drop 5 (fieldsOf c)) (now (out .entry)) ⌝ }
 {
-    c.rated as u64 % 0x400 * 0x40_0000_0000_0000
-        + c.application as u64 * 0x10_0000_0000
-        + c.recharge as u64 * 0x400_0000
-        + c.set as u64 * 0x1000
-        + c.offset as u64
+    let widths = [18, 10, 14, 12];
+    let values = [
+        c.application as u64,
+        c.recharge as u64,
+        c.set as u64,
+        c.offset as u64,
+    ];
+    bits::put_fields(out, 74, &widths, &values);
 }
 
 // Writes the record to the first 16 bytes of `out`.
 pub fn write(c: Consist, out: &mut [u8]) -> Verdict
-    ensures { λ r. ⌜ (r, now (out .exit)) ≡ writeConsist c (now (out .entry)) ⌝ }
+    ensures { λ r. ⌜ told (r, now (out .exit)) ≡ told (writeConsist c (now (out .entry))) ⌝ }
 {
-    let Step::On(c) = ranged(c) else {
+    let Step::On = refusal::unless(!in_range(c)) else {
         return Verdict::Refused(Refusal::OutOfRange);
     };
-    let Step::On(c) = weighed(c) else {
+    let Step::On = refusal::unless(too_light(c)) else {
         return Verdict::Refused(Refusal::TooLight);
     };
-    if out.len() < 16 {
+    let Step::On = refusal::unless(out.len() < Consist::SIZE) else {
         return Verdict::Refused(Refusal::NoRoom);
-    }
-    let high = high_word(c);
-    let low = low_word(c);
-    bits::put_word(&mut out[0..8], high);
-    bits::put_word(&mut out[8..16], low);
+    };
+    put_front(c, out);
+    put_back(c, out);
     Verdict::Accepted
 }

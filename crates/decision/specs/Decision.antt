@@ -1,19 +1,24 @@
 -- "Decision, 8 bytes": the layout, its reader and its writer. Definitions only.
 use Prim.Native.Nat.{ℕ, _^_}
 use mathlib.Core.List.{List, [], _∷_, _++_}
-use mathlib.Core.Bool.{Bool, not, _||_, Bool·beq}
-use lib.ListN.{length, getD}
+use mathlib.Core.Bool.{Bool, false, not, _||_, Bool·beq}
+use lib.ListN.{getD}
 use lib.Dec.{leb, ltb, eqb}
 use Rattle.bits.specs.Fields.{bit}
 use Rattle.bits.specs.Bytes.{fieldsIn, bytesFrom}
+use Rattle.record.specs.Record.{wrongLength}
 use Rattle.refusal.specs.Lowest.{Rule, lowest}
 use Rattle.refusal.specs.Written.{noRoom, written}
 use Rattle.refusal.specs.declared.Refusal.the-variants.{WrongLength, WrongMark, OutOfRange, NoRoom}
 use Rattle.refusal.specs.declared.Verdict.{Verdict}
-use Rattle.refusal.specs.declared.Verdict.the-variants as verdict
+use Rattle.refusal.specs.declared.Verdict.the-variants.{Refused}
+use Rattle.refusal.specs.declared.Refusal.{Refusal}
+use Rattle.refusal.specs.Steps.{kept}
 use Rattle.decision.specs.declared.Decision.{Decision}
-use Rattle.decision.specs.declared.Answer.{Answer}
-use Rattle.decision.specs.declared.Answer.the-variants.{Accepted, Refused}
+
+-- 8 bytes
+abbrev pub size : ℕ
+size = 8
 
 -- "mark 8 (0x44)"
 abbrev pub mark : ℕ
@@ -48,11 +53,7 @@ unfoldable pub decisionIn : List ℕ → Decision
 decisionIn s = ofFields (fieldsIn widths s)
 
 unfoldable pub bytesOf : Decision → List ℕ
-bytesOf d = bytesFrom 8 widths (fieldsOf d)
-
--- 2: a decision read is not 8 bytes
-unfoldable pub wrongLength : List ℕ → Bool
-wrongLength s = not (eqb (length s) 8)
+bytesOf d = bytesFrom size widths (fieldsOf d)
 
 -- 3: a wrong mark, of the fields that are read
 unfoldable pub wrongMark : List ℕ → Bool
@@ -75,24 +76,34 @@ outOfRange d =
     || atOdds d
     || not (rightStop d)
 
--- what a reader and a writer refuse alike
+-- what the fields are refused for, and what a reader and a writer refuse alike
+abbrev pub wrong : List ℕ → List Rule
+wrong fs = (wrongMark fs, WrongMark) ∷ []
+
 abbrev pub rules : Decision → List Rule
 rules d = (outOfRange d, OutOfRange) ∷ []
 
--- the paper's number and values: the lowest refusal, or the decision
-abbrev pub answer : Verdict → Decision → Answer
-answer verdict.Accepted d = Accepted d
-answer (verdict.Refused r) d = Refused r
+-- the decision of an answer that refuses
+abbrev pub none : Decision
+none = record { time = 0; state = 0; penalty = false; cause = 0; stop = 0 }
 
+-- the lowest refusal, or the decision
+abbrev pub answer : Verdict → Decision → Verdict × Decision
+answer v d = (v, kept v d none)
+
+abbrev pub refusedWith : Refusal → Verdict × Decision
+refusedWith r = answer (Refused r) none
+
+-- 2: a decision read is not 8 bytes
 abbrev pub readRules : List ℕ → List Rule
-readRules s = (wrongLength s, WrongLength) ∷ (wrongMark (fieldsIn widths s), WrongMark) ∷ rules (decisionIn s)
+readRules s = (wrongLength size s, WrongLength) ∷ wrong (fieldsIn widths s) ++ rules (decisionIn s)
 
-unfoldable pub readDecision : List ℕ → Answer
+unfoldable pub readDecision : List ℕ → Verdict × Decision
 readDecision s = answer (lowest (readRules s)) (decisionIn s)
 
 -- "Writers refuse what the reader would, with its number, touching nothing, and never touch bytes past the record."
 abbrev pub writeRules : Decision → List ℕ → List Rule
-writeRules d out = rules d ++ (noRoom 8 out, NoRoom) ∷ []
+writeRules d out = rules d ++ (noRoom size out, NoRoom) ∷ []
 
 unfoldable pub writeDecision : Decision → List ℕ → Verdict × List ℕ
 writeDecision d out = written (lowest (writeRules d out)) (bytesOf d) out

@@ -4,15 +4,14 @@ use Prim.Native.Nat.{ℕ, _≤_}
 use mathlib.Core.List.{List, _++_}
 use lib.ListN.{length, take, drop}
 use Rattle.bits.specs.Bytes.{Bytes}
-use Rattle.refusal.specs.declared.Verdict.the-variants as verdict
+use Rattle.refusal.specs.declared.Verdict.the-variants.{Accepted}
 use Rattle.decision.specs.declared.Decision.{Decision}
-use Rattle.decision.specs.declared.Answer.the-variants.{Accepted}
-use Rattle.decision.specs.Decision.{readDecision, writeDecision}
+use Rattle.decision.specs.Decision.{size, answer, readDecision, writeDecision}
 
 unfoldable pub WrittenReadsBack : Type 0
 WrittenReadsBack =
-    (d : Decision) (out : List ℕ) → writeDecision d out .0 ≡ verdict.Accepted → readDecision (take 8 (writeDecision d out .1)) ≡ Accepted d
+    (d : Decision) (out : List ℕ) → writeDecision d out .0 ≡ Accepted → readDecision (take size (writeDecision d out .1)) ≡ answer Accepted d
 
 unfoldable pub AcceptedWritesBack : Type 0
 AcceptedWritesBack =
-    (s out : List ℕ) (d : Decision) → Bytes s → 8 ≤ length out → readDecision s ≡ Accepted d → writeDecision d out ≡ (verdict.Accepted, s ++ drop 8 out)
+    (s out : List ℕ) → Bytes s → size ≤ length out → readDecision s .0 ≡ Accepted → writeDecision (readDecision s .1) out ≡ (Accepted, s ++ drop size out)

@@ -1,10 +1,11 @@
 // The decision: a record of 8 bytes.
 use refusal::Refusal;
+use refusal::Step;
 use refusal::Verdict;
 ghost use mathlib.Core.Path.{_≡_};
-ghost use Rattle.bits.specs.Fields.{split, join, Fit};
-ghost use Rattle.decision.specs.Decision.{widths, fieldsOf, ofFields, wrongMark, outOfRange, readDecision, writeDecision};
-ghost use Rattle.decision.specs.Steps.{wordOf, unless};
+ghost use Rattle.bits.specs.Places.{fieldsFrom, putFrom};
+ghost use Rattle.refusal.specs.Number.{told};
+ghost use Rattle.decision.specs.Decision.{widths, fieldsOf, ofFields, outOfRange, refusedWith, readDecision, writeDecision};
 
 pub struct Decision {
     // seconds
@@ -19,61 +20,47 @@ pub struct Decision {
 }
 
 impl Decision {
-    pub const MARK: u8 = 0x44;
+    // Bytes of the record.
+    pub const SIZE: usize = 8;
+
+    pub const MARK: u64 = 0x44;
     // The greatest location.
     pub const FARTHEST: u32 = 4_000_000;
     // The stopping location of a train that does not stop.
     pub const NO_STOP: u32 = 16_777_215;
 }
 
-// What reading a decision answers.
-pub enum Answer {
-    Accepted(Decision),
-    Refused(Refusal),
+// What reading a decision answers; where it is refused, the decision is all zero.
+pub struct Answer {
+    pub verdict: Verdict,
+    pub decision: Decision,
 }
 
-// What a step of reading or writing finds: the decision to go on with, or nothing.
-pub enum Step {
-    On(Decision),
-    Off,
-}
-
-// The 64 bits of a record.
-pub enum Word {
-    One(u64),
-    Wrong,
-}
-
-fn word_of(s: &[u8]) -> Word
-    ensures { λ r. ⌜ r ≡ wordOf (now (s .entry)) ⌝ }
+fn refused(r: Refusal) -> Answer
+    ensures { λ a. ⌜ (a .verdict, a .decision) ≡ refusedWith r ⌝ }
 {
-    if s.len() != 8 {
-        return Word::Wrong;
+    Answer {
+        verdict: Verdict::Refused(r),
+        decision: Decision {
+            time: 0,
+            state: 0,
+            penalty: false,
+            cause: 0,
+            stop: 0,
+        },
     }
-    Word::One(bits::word(s))
 }
 
-// The decision of a word's bits, whatever the mark.
-fn of_word(w: u64) -> Decision
-    ensures { λ r. ⌜ r ≡ ofFields (split widths w) ⌝ }
+// The decision of a record's bits, whatever the mark.
+fn of_bytes(s: &[u8]) -> Decision
+    ensures { λ r. ⌜ r ≡ ofFields (fieldsFrom 0 widths (now (s .entry))) ⌝ }
 {
     Decision {
-        time: (w / 0x1_0000_0000 % 0x100_0000) as u32,
-        state: (w / 0x2000_0000 % 8) as u8,
-        penalty: w / 0x1000_0000 % 2 == 1,
-        cause: (w / 0x100_0000 % 0x10) as u8,
-        stop: (w % 0x100_0000) as u32,
-    }
-}
-
-// The decision of a word's bits, if they begin with the mark.
-fn marked(w: u64) -> Step
-    ensures { λ r. ⌜ r ≡ unless (wrongMark (split widths w)) (ofFields (split widths w)) ⌝ }
-{
-    if w / 0x100_0000_0000_0000 % 0x100 == Decision::MARK as u64 {
-        Step::On(of_word(w))
-    } else {
-        Step::Off
+        time: bits::field(s, 8, 24) as u32,
+        state: bits::field(s, 32, 3) as u8,
+        penalty: bits::field(s, 35, 1) == 1,
+        cause: bits::field(s, 36, 4) as u8,
+        stop: bits::field(s, 40, 24) as u32,
     }
 }
 
@@ -87,56 +74,50 @@ fn out_of_range(d: Decision) -> bool
         | !((d.stop <= Decision::FARTHEST) | (d.stop == Decision::NO_STOP))
 }
 
-// The decision, if every field is in its range.
-fn ranged(d: Decision) -> Step
-    ensures { λ r. ⌜ r ≡ unless (outOfRange d) d ⌝ }
+pub fn read(s: &[u8]) -> Answer
+    ensures { λ r. ⌜ told (r .verdict, r .decision) ≡ told (readDecision (now (s .entry))) ⌝ }
 {
-    if out_of_range(d) {
-        Step::Off
-    } else {
-        Step::On(d)
+    let Step::On = refusal::unless(s.len() != Decision::SIZE) else {
+        return refused(Refusal::WrongLength);
+    };
+    let Step::On = refusal::unless(bits::field(s, 0, 8) != Decision::MARK) else {
+        return refused(Refusal::WrongMark);
+    };
+    let d = of_bytes(s);
+    let Step::On = refusal::unless(out_of_range(d)) else {
+        return refused(Refusal::OutOfRange);
+    };
+    Answer {
+        verdict: Verdict::Accepted,
+        decision: d,
     }
 }
 
-pub fn read(s: &[u8]) -> Answer
-    ensures { λ r. ⌜ r ≡ readDecision (now (s .entry)) ⌝ }
+fn put(d: Decision, out: &mut [u8])
+    ensures { λ _. ⌜ now (out .exit) ≡ putFrom 0 widths (fieldsOf d) (now (out .entry)) ⌝ }
 {
-    let Word::One(w) = word_of(s) else {
-        return Answer::Refused(Refusal::WrongLength);
-    };
-    let Step::On(d) = marked(w) else {
-        return Answer::Refused(Refusal::WrongMark);
-    };
-    let Step::On(d) = ranged(d) else {
-        return Answer::Refused(Refusal::OutOfRange);
-    };
-    Answer::Accepted(d)
-}
-
-// The 64 bits of the record.
-fn to_word(d: Decision) -> u64
-    requires { ⌜ Fit widths (fieldsOf d) ⌝ }
-    ensures { λ r. ⌜ r ≡ join widths (fieldsOf d) ⌝ }
-{
-    Decision::MARK as u64 * 0x100_0000_0000_0000
-        + d.time as u64 * 0x1_0000_0000
-        + d.state as u64 * 0x2000_0000
-        + d.penalty as u64 * 0x1000_0000
-        + d.cause as u64 * 0x100_0000
-        + d.stop as u64
+    let widths = [8, 24, 3, 1, 4, 24];
+    let values = [
+        Decision::MARK,
+        d.time as u64,
+        d.state as u64,
+        d.penalty as u64,
+        d.cause as u64,
+        d.stop as u64,
+    ];
+    bits::put_fields(out, 0, &widths, &values);
 }
 
 // Writes the record to the first 8 bytes of `out`.
 pub fn write(d: Decision, out: &mut [u8]) -> Verdict
-    ensures { λ r. ⌜ (r, now (out .exit)) ≡ writeDecision d (now (out .entry)) ⌝ }
+    ensures { λ r. ⌜ told (r, now (out .exit)) ≡ told (writeDecision d (now (out .entry))) ⌝ }
 {
-    let Step::On(d) = ranged(d) else {
+    let Step::On = refusal::unless(out_of_range(d)) else {
         return Verdict::Refused(Refusal::OutOfRange);
     };
-    if out.len() < 8 {
+    let Step::On = refusal::unless(out.len() < Decision::SIZE) else {
         return Verdict::Refused(Refusal::NoRoom);
-    }
-    let w = to_word(d);
-    bits::put_word(&mut out[0..8], w);
+    };
+    put(d, out);
     Verdict::Accepted
 }

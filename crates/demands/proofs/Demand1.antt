@@ -6,14 +6,17 @@ use mathlib.Core.Logic.{_↔_, ⊎-elim}
 use Prim.Native.Nat.{ℕ}
 use lib.Dec.{eqb}
 use borrow.Author.Tests.{eq-eqb}
+use denote.Ref.{now}
 use Rattle.refusal.specs.declared.Refusal.{Refusal}
 use Rattle.refusal.specs.declared.Refusal.the-variants.{NoSession, WrongLength, WrongMark, OutOfRange, TooLight, BrokenProfile, BrokenTargets, BadReading, WrongTime, NotCovered, TooFast, NoRoom}
 use Rattle.refusal.specs.declared.Verdict.{Verdict}
 use Rattle.refusal.specs.declared.Verdict.the-variants.{Refused}
 use Rattle.refusal.specs.Number.{numberOf}
 use Rattle.refusal.specs.Lowest.{Rule}
-use Rattle.refusal.specs.Exactly.{Applies, Lowest, WrittenExactly}
+use Rattle.refusal.specs.Exactly.{Applies, Lowest, WrittenExactly, ReadExactly}
 use Rattle.refusal.proofs.Exactly.{number-tells}
+use Rattle.refusal.proofs.Numbers.{told-one}
+use Rattle.refusal.proofs.unless.Met as refusal-unless
 use Rattle.refusal.proofs.number.Met as refusal-number
 use Rattle.refusal.proofs.verdict_number.Met as refusal-verdict-number
 use Rattle.consist.specs.Exactly as consist-specs
@@ -34,6 +37,7 @@ use Rattle.targets.proofs.target_at.Met as targets-target-at
 use Rattle.targets.proofs.write.Met as targets-write
 use Rattle.sample.specs.Exactly as sample-specs
 use Rattle.sample.proofs.Exactly as sample
+use Rattle.sample.proofs.Told as sample-told
 use Rattle.sample.proofs.lay_out.Met as sample-lay-out
 use Rattle.sample.proofs.judge.Met as sample-judge
 use Rattle.sample.proofs.read.Met as sample-read
@@ -49,6 +53,7 @@ use Rattle.session.specs.Sample.{rules, sampleCall}
 use Rattle.session.specs.Laws.{OpenExact, SampleExact}
 use Rattle.session.specs.Laws as session-specs
 use Rattle.session.proofs.Laws as session
+use Rattle.session.proofs.Told as session-told
 use Rattle.session.proofs.none.Met as session-none
 use Rattle.session.proofs.is_open.Met as session-is-open
 use Rattle.session.proofs.open.Met as session-open
@@ -57,7 +62,8 @@ use Rattle.held.specs.Exactly as held-specs
 use Rattle.held.proofs.Exactly as held
 use Rattle.held.proofs.read.Met as held-read
 use Rattle.held.proofs.write.Met as held-write
-use Rattle.demands.specs.Demand1.{among, oneToTwelve, Table, PublicCall, Refuses, RefusesUnchanged, Demand-1}
+use Rattle.demands.proofs.Told.{held-one}
+use Rattle.demands.specs.Demand1.{among, oneToTwelve, Table, PublicCall, Refuses, RefusesUnchanged, RefusesFixed, Demand-1}
 
 -- ---- the table
 
@@ -115,6 +121,12 @@ module _ {numbers : List ℕ} {rules : List Rule} (lines : linesOf rules ≡ num
     unchanged = λ q h. ap left e ∙ kept q (sym (ap said e) ∙ h);
   }
 
+  reads : {C : Type 0} {none : C} {made y : Verdict × C} → ReadExactly rules none (made .0) (made .1) → y ≡ made → RefusesFixed numbers rules Refused (y .0) none (y .1)
+  reads {C} exact e = record {
+    refuses = refuses (exact .refused) (ap (λ (y : Verdict × C). y .0) e);
+    fixed = λ q h. ap (λ (y : Verdict × C). y .1) e ∙ exact .fixed q (sym (ap (λ (y : Verdict × C). y .0) e) ∙ h);
+  }
+
   writes : {out : List ℕ} {made y : Verdict × List ℕ} → WrittenExactly rules out made → y ≡ made → RefusesUnchanged numbers rules Refused (y .0) out (y .1)
   writes exact e = leaves (λ (y : Verdict × List ℕ). y .0) (λ (y : Verdict × List ℕ). y .1) (exact .refused) (exact .untouched) e
 
@@ -143,27 +155,28 @@ pub demand-1 : Demand-1
 unfolding consist-specs.ReadExactly consist-specs.WriteExactly profile-specs.JudgeExactly profile-specs.WriteExactly targets-specs.JudgeExactly targets-specs.WriteExactly sample-specs.LayoutExactly sample-specs.JudgeExactly sample-specs.ReadExactly sample-specs.WriteExactly decision-specs.ReadExactly decision-specs.WriteExactly session-specs.OpenExactly session-specs.SampleExactly held-specs.ReadExactly held-specs.WriteExactly
 demand-1 = record {
   table = table;
+  refusal-unless = call (λ M. refusal-unless.met) (λ l a r x p. p);
   refusal-number = call (λ M. refusal-number.met) (λ l a r x p. p);
   refusal-verdict-number = call (λ M. refusal-verdict-number.met) (λ l a r x p. p);
-  consist-read = call (λ M. consist-read.met) (λ l a r x p. refuses refl (consist.read-exactly _) p);
+  consist-read = call (λ M. consist-read.met) (λ l a r x p. reads refl (consist.read-exactly _) (told-one _ _ p));
   consist-is-sound = call (λ M. consist-is-sound.met) (λ l a r x p. p);
-  consist-write = call (λ M. consist-write.met) (λ l a r x p. writes refl (consist.write-exactly _ _) p);
-  profile-judge = call (λ M. profile-judge.met) (λ l a r x p. refuses refl (profile.judge-exactly _) p);
+  consist-write = call (λ M. consist-write.met) (λ l a r x p. writes refl (consist.write-exactly _ _) (told-one _ _ p));
+  profile-judge = call (λ M. profile-judge.met) (λ l a r x p. reads refl (profile.judge-exactly _) (told-one _ _ p));
   profile-segment-at = call (λ M. profile-segment-at.met) (λ l a r x p. p);
-  profile-write = call (λ M. profile-write.met) (λ l a r x p. writes refl (profile.write-exactly _ _ _ _) p);
-  targets-judge = call (λ M. targets-judge.met) (λ l a r x p. refuses refl (targets.judge-exactly _) p);
+  profile-write = call (λ M. profile-write.met) (λ l a r x p. writes refl (profile.write-exactly (now (a .0)) (now (a .1 .0)) (now (a .1 .1 .0)) (now (a .1 .1 .1 .0))) (told-one _ _ p));
+  targets-judge = call (λ M. targets-judge.met) (λ l a r x p. reads refl (targets.judge-exactly _) (told-one _ _ p));
   targets-target-at = call (λ M. targets-target-at.met) (λ l a r x p. p);
-  targets-write = call (λ M. targets-write.met) (λ l a r x p. writes refl (targets.write-exactly _ _ _) p);
-  sample-lay-out = call (λ M. sample-lay-out.met) (λ l a r x p. refuses refl (sample.layout-exactly _) p);
-  sample-judge = call (λ M. sample-judge.met) (λ l a r x p. refuses refl (sample.judge-exactly _) p);
-  sample-read = call (λ M. sample-read.met) (λ l a r x p. refuses refl (sample.read-exactly _) p);
-  sample-write = call (λ M. sample-write.met) (λ l a r x p. writes refl (sample.write-exactly _ _) p);
-  decision-read = call (λ M. decision-read.met) (λ l a r x p. refuses refl (decision.read-exactly _) p);
-  decision-write = call (λ M. decision-write.met) (λ l a r x p. writes refl (decision.write-exactly _ _) p);
-  session-none = call (λ M. session-none.met) (λ l a r x p. p);
+  targets-write = call (λ M. targets-write.met) (λ l a r x p. writes refl (targets.write-exactly (now (a .0)) (now (a .1 .0)) (now (a .1 .1 .0))) (told-one _ _ p));
+  sample-lay-out = call (λ M. sample-lay-out.met) (λ l a r x p. reads refl (sample.layout-exactly _) (sample-told.answer-one _ _ p));
+  sample-judge = call (λ M. sample-judge.met) (λ l a r x p. reads refl (sample.judge-exactly _) (sample-told.judged-one _ _ p));
+  sample-read = call (λ M. sample-read.met) (λ l a r x p. reads refl (sample.read-exactly _) (sample-told.answer-one _ _ p));
+  sample-write = call (λ M. sample-write.met) (λ l a r x p. writes refl (sample.write-exactly _ _) (told-one _ _ p));
+  decision-read = call (λ M. decision-read.met) (λ l a r x p. reads refl (decision.read-exactly _) (told-one _ _ p));
+  decision-write = call (λ M. decision-write.met) (λ l a r x p. writes refl (decision.write-exactly _ _) (told-one _ _ p));
+  session-none = call (λ M. session-none.met) (λ l a r x p. session-told.session-one _ _ p);
   session-is-open = call (λ M. session-is-open.met) (λ l a r x p. p);
-  session-open = call (λ M. session-open.met) (λ l a r x p. opens refl (session.open-exactly _ _) p);
-  session-sample = call (λ M. session-sample.met) (λ l a r x p. samples refl (session.sample-exactly _ _ _ _ _) p);
-  held-read = call (λ M. held-read.met) (λ l a r x p. refuses refl (held.read-exactly _) p);
-  held-write = call (λ M. held-write.met) (λ l a r x p. writes refl (held.write-exactly _ _) p);
+  session-open = call (λ M. session-open.met) (λ l a r x p. opens refl (session.open-exactly _ _) (session-told.answer-one _ _ p));
+  session-sample = call (λ M. session-sample.met) (λ l a r x p. samples refl (session.sample-exactly _ _ _ _ _) (session-told.call-one _ _ p));
+  held-read = call (λ M. held-read.met) (λ l a r x p. reads refl (held.read-exactly _) (held-one _ _ p));
+  held-write = call (λ M. held-write.met) (λ l a r x p. writes refl (held.write-exactly _ _) (told-one _ _ p));
 }

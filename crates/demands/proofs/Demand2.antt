@@ -4,6 +4,7 @@ use mathlib.Core.Bool.{true, not}
 use mathlib.Core.List.{List, [], _∷_}
 use Prim.Native.Nat.{ℕ}
 use Rattle.refusal.specs.Lowest.{lowest}
+use Rattle.refusal.specs.Steps.{kept}
 use Rattle.refusal.specs.Written.{written}
 use Rattle.refusal.specs.declared.Refusal.the-variants.{NoSession}
 use Rattle.refusal.specs.declared.Verdict.{Verdict}
@@ -25,7 +26,7 @@ use Rattle.session.proofs.Calls.{answered, call-before}
 use Rattle.session.proofs.Laws.{opens-open, stays-open}
 use Rattle.demands.specs.Program.{ours}
 use Rattle.demands.specs.History.{brakes, predictionAt, callAt, callsIn, firstCall, causeIn, decisionAt, wrongTimeAfter, rulesAt}
-use Rattle.demands.specs.Run.{Call, opening, sampling, Reply, replyOf, runFrom, afterCalls, Standing, nothing, since, kept, next, held, replyAt, Decides, standingAfter, paperFrom}
+use Rattle.demands.specs.Run.{Call, opening, sampling, Reply, replyOf, runFrom, afterCalls, Standing, nothing, since, next, held, replyAt, Decides, standingAfter, paperFrom}
 use Rattle.demands.specs.Demand2.{Demand-2, HistoryHeld, DecisionRead}
 use Rattle.demands.proofs.FirstCall.{first-of-both}
 use Rattle.demands.proofs.Same.{same, same-reply, same-run, same-after}
@@ -39,7 +40,7 @@ Open nothing = Unit {0}
 Open (since c h) = isOpen (held (since c h)) ≡ true
 
 opened-is : (st : Standing) (s : List ℕ) (v : Verdict) →
-    openedBy (held st) (answer v (consistIn s)) ≡ record { session = held (kept v st (since (consistIn s) [])); verdict = v }
+    openedBy (held st) (answer v (consistIn s)) ≡ record { session = held (kept v (since (consistIn s) []) st); verdict = v }
 unfolding brakes callsIn firstCall
 opened-is st s Accepted = refl
 opened-is st s (Refused r) = refl
@@ -64,10 +65,10 @@ module _ (c : Consist) (h : List Lent) (l : Lent) where
 
   answer-is : (v : Verdict) →
       _≡_ {A = Reply} (
-        record { session = session.kept v (held (since c h)) (session.sessionAfter (held (since c h)) (sampleIn (l .sample)) (l .profile) (l .targets)); verdict = v },
+        record { session = kept v (session.sessionAfter (held (since c h)) (sampleIn (l .sample)) (l .profile) (l .targets)) (held (since c h)); verdict = v },
         written v (bytesOf (session.decisionOf (held (since c h)) (sampleIn (l .sample)) (l .profile) (l .targets))) (l .out) .1,
       )
-      (record { session = held (kept v (since c h) (since c (l ∷ h))); verdict = v }, written v (bytesOf (decisionAt c h l)) (l .out) .1)
+      (record { session = held (kept v (since c (l ∷ h)) (since c h)); verdict = v }, written v (bytesOf (decisionAt c h l)) (l .out) .1)
   unfolding brakes predictionAt
   answer-is Accepted = rw cause-is
   answer-is (Refused r) = refl
@@ -81,8 +82,8 @@ reply-is (since c h) o (sampling l) =
     ∙ answer-is c h l (lowest (rulesAt c h l))
 
 open-after : (a : Answer) (v : Verdict) (old : Standing) (c : Consist) (h : List Lent) → Open old
-    → a ≡ record { session = held (kept v old (since c h)); verdict = v } → (a .verdict ≡ Accepted → isOpen (a .session) ≡ true)
-    → Open (kept v old (since c h))
+    → a ≡ record { session = held (kept v (since c h) old); verdict = v } → (a .verdict ≡ Accepted → isOpen (a .session) ≡ true)
+    → Open (kept v (since c h) old)
 open-after a Accepted old c h o e f = sym (ap (λ (b : Answer). isOpen (b .session)) e) ∙ f (ap (λ (b : Answer). b .verdict) e)
 open-after a (Refused r) old c h o e f = o
 

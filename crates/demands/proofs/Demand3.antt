@@ -5,7 +5,7 @@ use mathlib.Core.List.{List}
 use Prim.Native.Nat.{ℕ, zero, suc, _≤_, _<_}
 use native.Mathlib.Omega.{arith}
 use lib.Dec.{eqb}
-use Rattle.targets.specs.Targets.{count, speedsIn, locationsIn}
+use Rattle.targets.specs.Targets.{most, count, speedsIn, locationsIn}
 use Rattle.sample.specs.declared.Sample.{Sample}
 use Rattle.decision.specs.declared.Decision.{Decision}
 use Rattle.track.specs.Track.{layOf}
@@ -66,11 +66,11 @@ demand-3 p meets one other s s′ profile targets out out′ d d′ h h′ w =
     let cautious =
     judge-proofs.demand-3 (approach one (sampleIn s) profile) (approach other (sampleIn s′) profile) (first .consist) (second .consist) (first .head)
     (worse one other (sampleIn s) (sampleIn s′) profile w) in
-    let called = cautious .called (count targets) (locationsIn targets 8) (speedsIn targets 8) in
+    let called = cautious .called (count targets) (locationsIn targets most) (speedsIn targets most) in
     let is = decision-is one s profile targets out d ours in
     let is′ = decision-is other s′ profile targets out′ d′ theirs in
     record {
-      stop = subst₂ _≤_ (sym (ap (λ (e : Decision). e .stop) is′)) (sym (ap (λ (e : Decision). e .stop) is)) (cautious .stop (speedsIn targets 8));
+      stop = subst₂ _≤_ (sym (ap (λ (e : Decision). e .stop) is′)) (sym (ap (λ (e : Decision). e .stop) is)) (cautious .stop (speedsIn targets most));
       not-short = cautious .not-short;
       called = called;
       penalty = λ none h.

@@ -1,4 +1,5 @@
 -- What is demanded, proved from what the layers prove.
+pub mod Told
 pub mod Demand1
 pub mod Mounted1
 pub mod Program
@@ -7,6 +8,7 @@ pub mod FirstCall
 pub mod Decided
 pub mod Demand2
 pub mod Mounted2
+pub mod Damage
 pub mod Locations
 pub mod Penalty
 pub mod SessionRead

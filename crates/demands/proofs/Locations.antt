@@ -6,7 +6,7 @@ use Prim.Native.Nat.{ℕ, zero, suc, _+_, _<_, min}
 use native.Mathlib.Omega.{arith}
 use Rattle.bits.proofs.UpTo.{getD-upTo}
 use Rattle.consist.specs.declared.Consist.{Consist}
-use Rattle.targets.specs.Targets.{count, targetAt, speedsIn, locationsIn}
+use Rattle.targets.specs.Targets.{most, count, targetAt, speedsIn, locationsIn}
 use Rattle.track.specs.Track.{layOf}
 use Rattle.walk.specs.Curve.{forceAt, penaltyCurve}
 use Rattle.walk.specs.Step.{groundOf}
@@ -43,22 +43,22 @@ module _ (c : Consist) (h : List Lent) (l : Lent) where
   location-is : (u : ℕ) → locationOf (place u) ≡ locationFor c h l u
   location-is u = ap locationOf (place-is u)
 
-  call-is : (i : ℕ) → i < 8 →
-      calls (c .offset) (sampleIn (l .sample) .head) (sampleIn (l .sample) .speed) (locationsIn (l .targets) 8) (speedsIn (l .targets) 8)
+  call-is : (i : ℕ) → i < most →
+      calls (c .offset) (sampleIn (l .sample) .head) (sampleIn (l .sample) .speed) (locationsIn (l .targets) most) (speedsIn (l .targets) most)
       (predictionAt c h l .places) i
       ≡ callsFor c h l i
   unfolding predictionAt predictionOf predictOf
   call-is i s =
       let target = targetAt (l .targets) in
-      called-same (c .offset) (sampleIn (l .sample) .head) (sampleIn (l .sample) .speed) (getD-upTo (λ k. target k .location) 8 i 0 s)
-      (getD-upTo (λ k. target k .speed) 8 i 0 s)
-      (getD-upTo (λ k. locationOf (place (target k .speed))) 8 i 0 s ∙ location-is (target i .speed))
+      called-same (c .offset) (sampleIn (l .sample) .head) (sampleIn (l .sample) .speed) (getD-upTo (λ k. target k .location) most i 0 s)
+      (getD-upTo (λ k. target k .speed) most i 0 s)
+      (getD-upTo (λ k. locationOf (place (target k .speed))) most i 0 s ∙ location-is (target i .speed))
 
 pub locations : Locations
 unfolding Locations predictionAt predictionOf predictOf callAt causeOf
 locations c h l = record {
   stop = location-is c h l 0;
-  places = ap (λ (f : ℕ → ℕ). map f (speedsIn (l .targets) 8)) (fun-ext (location-is c h l));
+  places = ap (λ (f : ℕ → ℕ). map f (speedsIn (l .targets) most)) (fun-ext (location-is c h l));
   fast = ap isFast (place-is c h l 0);
-  call = first-same _ (callsFor c h l) 0 (min (count (l .targets)) 8) (λ i s. call-is c h l i (omega arith));
+  call = first-same _ (callsFor c h l) 0 (min (count (l .targets)) most) (λ i s. call-is c h l i (omega arith));
 }

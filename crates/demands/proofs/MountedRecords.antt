@@ -1,30 +1,23 @@
 -- What the C library writes reads back, from the round trips of the records. Assumes nothing.
 use mathlib.Core.Path.{_≡_, sym, ap, subst, _∙_}
-use mathlib.Core.Bool.{Bool, true, false}
 use mathlib.Core.List.{List}
 use Prim.Native.Nat.{ℕ, _*_}
 use lib.ListN.{length, take, drop}
-use lib.Dec.{T}
-use lib.Ieee.{binary32}
-use lib.Ieee.Bits.{ofBits-fits}
+use Rattle.refusal.specs.Number.{told}
 use Rattle.refusal.specs.Lowest.{lowest}
 use Rattle.refusal.specs.Written.{written}
 use Rattle.refusal.specs.declared.Verdict.{Verdict}
 use Rattle.refusal.specs.declared.Verdict.the-variants.{Accepted}
 use Rattle.refusal.proofs.Order.{accepted, append-accepted, written-accepted}
 use Rattle.refusal.proofs.Numbers.{verdict-accepted}
-use Rattle.consist.specs.declared.Answer.the-variants as consist-answer
 use Rattle.consist.specs.Consist as consist
-use Rattle.profile.specs.Profile.{writeProfile}
-use Rattle.targets.specs.Targets.{writeTargets}
-use Rattle.sample.specs.declared.Answer.the-variants as sample-answer
-use Rattle.sample.specs.Sample.{lostIn, rearOf, ofFields, bytesOf, readSample, writeRules, writeSample}
-use Rattle.sample.specs.RoundTrip.{rearFits, Binary32}
+use Rattle.profile.specs.Profile as profile
+use Rattle.targets.specs.Targets as targets
+use Rattle.sample.specs.Sample.{ofFields, bytesOf, readSample, writeRules, writeSample}
+use Rattle.sample.specs.Sample as sample
 use Rattle.decision.specs.declared.Decision.{Decision}
-use Rattle.decision.specs.declared.Answer.the-variants as decision-answer
 use Rattle.decision.specs.Decision as decision
-use Rattle.mount.specs.Told.{told}
-use Rattle.mount.specs.Records.{consistWritten, profileWritten, targetsWritten, sampleWriteRules, sampleWritten, numbersOf, decisionRules, decisionRead}
+use Rattle.mount.specs.Records.{consistWritten, profileWritten, targetsWritten, sampleWriteRules, sampleWritten, decisionNumbers, numbersOf, decisionRules, decisionRead}
 use Rattle.mount.proofs.Exactly.{records-exactly}
 use Rattle.demands.specs.RoundTrips.{Segments, ReadsSegments, Targets, ReadsTargets}
 use Rattle.demands.specs.MountedRecords.{WritesFirst, MountedRecords}
@@ -40,52 +33,44 @@ writes {n} {Are} {before} w e first past =
 
 module _ {y : ℕ × List ℕ} where
   consist-written : (fields out : List ℕ) → y ≡ consistWritten fields out
-      → WritesFirst 16 (λ s. consist.readConsist s ≡ consist-answer.Accepted (consist.ofFields fields)) (y .0) out (y .1)
+      → WritesFirst consist.size (λ s. consist.readConsist s ≡ (Accepted, consist.ofFields fields)) (y .0) out (y .1)
   unfolding consistWritten
   consist-written fields out e =
       let c = consist.ofFields fields in
-      writes (consist.writeConsist c out) e (round-trips .consist .written-reads-back c out tt) (records-exactly .consist-written fields out .past)
+      writes (consist.writeConsist c out) e (round-trips .consist .written-reads-back c out) (records-exactly .consist-written fields out .past)
 
   profile-written : (c : Segments) (out : List ℕ) → y ≡ profileWritten (c .starts) (c .grades) (c .curvatures) out
-      → WritesFirst (6 * length (c .starts)) (λ p. ReadsSegments p c) (y .0) out (y .1)
+      → WritesFirst (profile.size * length (c .starts)) (λ p. ReadsSegments p c) (y .0) out (y .1)
   unfolding profileWritten
   profile-written c out e =
-      writes (writeProfile (c .starts) (c .grades) (c .curvatures) out) e (round-trips .profile .written-reads-back c out tt)
+      writes (profile.writeProfile (c .starts) (c .grades) (c .curvatures) out) e (round-trips .profile .written-reads-back c out)
       (records-exactly .profile-written (c .starts) (c .grades) (c .curvatures) out .past)
 
   targets-written : (c : Targets) (out : List ℕ) → y ≡ targetsWritten (c .locations) (c .speeds) out
-      → WritesFirst (5 * length (c .locations)) (λ t. ReadsTargets t c) (y .0) out (y .1)
+      → WritesFirst (targets.size * length (c .locations)) (λ t. ReadsTargets t c) (y .0) out (y .1)
   unfolding targetsWritten
   targets-written c out e =
-      writes (writeTargets (c .locations) (c .speeds) out) e (round-trips .targets .written-reads-back c out tt)
+      writes (targets.writeTargets (c .locations) (c .speeds) out) e (round-trips .targets .written-reads-back c out)
       (records-exactly .targets-written (c .locations) (c .speeds) out .past)
 
 -- ---- the sample
-
-rear-fits : (lost : Bool) (bits : ℕ) → T (rearFits (rearOf lost bits))
-rear-fits true bits = tt
-rear-fits false bits = ofBits-fits binary32 bits
-
--- readings that are made of bits
-fits : (fields : List ℕ) → Binary32 (ofFields fields)
-fits fields = record { speed = ofBits-fits binary32 _; front = ofBits-fits binary32 _; rear = rear-fits (lostIn fields) _ }
 
 module _ (fields out : List ℕ) where
   abbrev sampled : Verdict × List ℕ
   sampled = written (lowest (sampleWriteRules fields out)) (bytesOf (ofFields fields)) out
 
-  sample-back : sampled .0 ≡ Accepted → readSample (take 20 (sampled .1)) ≡ sample-answer.Accepted (ofFields fields)
+  sample-back : sampled .0 ≡ Accepted → readSample (take sample.size (sampled .1)) ≡ (Accepted, ofFields fields)
   unfolding writeSample
   sample-back h =
       let raw = ofFields fields in
       let v = written-accepted _ (bytesOf raw) out h in
       let same : lowest (sampleWriteRules fields out) ≡ lowest (writeRules raw out) = v ∙ sym (accepted _ _ _ v .1) in
       let e = ap (λ (w : Verdict). written w (bytesOf raw) out) same in
-      ap (λ (w : Verdict × List ℕ). readSample (take 20 (w .1))) e
-      ∙ round-trips .sample .written-reads-back raw out (fits fields) (sym (ap (λ (w : Verdict × List ℕ). w .0) e) ∙ h)
+      ap (λ (w : Verdict × List ℕ). readSample (take sample.size (w .1))) e
+      ∙ round-trips .sample .written-reads-back fields out (sym (ap (λ (w : Verdict × List ℕ). w .0) e) ∙ h)
 
   sample-written : {y : ℕ × List ℕ} → y ≡ sampleWritten fields out
-      → WritesFirst 20 (λ s. readSample s ≡ sample-answer.Accepted (ofFields fields)) (y .0) out (y .1)
+      → WritesFirst sample.size (λ s. readSample s ≡ (Accepted, ofFields fields)) (y .0) out (y .1)
   unfolding sampleWritten
   sample-written e = writes sampled e sample-back (records-exactly .sample-written fields out .past)
 
@@ -99,18 +84,18 @@ module _ (s numbers : List ℕ) where
   found = written (lowest (decisionRules s numbers)) (numbersOf d) numbers
 
   abbrev Numbers : List ℕ → Type 0
-  Numbers five = (e : Decision) × (decision.readDecision s ≡ decision-answer.Accepted e) × (five ≡ numbersOf e)
+  Numbers five = (e : Decision) × (decision.readDecision s ≡ (Accepted, e)) × (five ≡ numbersOf e)
 
-  decision-back : found .0 ≡ Accepted → Numbers (take 5 (found .1))
+  decision-back : found .0 ≡ Accepted → Numbers (take decisionNumbers (found .1))
   unfolding decision.readDecision
   decision-back h =
       let v = written-accepted _ (numbersOf d) numbers h in (
         d,
         ap (λ (w : Verdict). decision.answer w d) (append-accepted (decision.readRules s) _ v),
-        ap (λ (w : Verdict). take 5 (written w (numbersOf d) numbers .1)) v,
+        ap (λ (w : Verdict). take decisionNumbers (written w (numbersOf d) numbers .1)) v,
       )
 
-  decision-found : {y : ℕ × List ℕ} → y ≡ decisionRead s numbers → WritesFirst 5 Numbers (y .0) numbers (y .1)
+  decision-found : {y : ℕ × List ℕ} → y ≡ decisionRead s numbers → WritesFirst decisionNumbers Numbers (y .0) numbers (y .1)
   unfolding decisionRead
   decision-found e = writes found e decision-back (records-exactly .decision-read s numbers .past)
 

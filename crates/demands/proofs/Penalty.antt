@@ -6,13 +6,13 @@ use Prim.Native.Nat.{ℕ, zero, suc, _<_}
 use native.Mathlib.Omega.{arith}
 use lib.Dec.{eqb}
 use borrow.Author.Tests.{ne-eqb}
-use Rattle.refusal.specs.declared.Verdict.the-variants.{Accepted}
-use Rattle.consist.specs.declared.Answer.{Answer}
-use Rattle.consist.specs.declared.Answer.the-variants as consist
+use Rattle.refusal.specs.declared.Verdict.{Verdict}
+use Rattle.refusal.specs.declared.Verdict.the-variants.{Accepted, Refused}
+use Rattle.consist.specs.declared.Consist.{Consist}
 use Rattle.consist.specs.Consist.{readConsist}
 use Rattle.decision.specs.declared.Decision.{Decision}
 use Rattle.session.specs.declared.Session.{Session}
-use Rattle.session.specs.declared.Answer.{Answer as Answered}
+use Rattle.session.specs.declared.Answer.{Answer}
 use Rattle.session.specs.Open.{openedBy, openOf}
 use Rattle.session.specs.Sample.{sampleIn, causeAfter, decisionOf, sampleCall}
 use Rattle.session.specs.Laws.{Lent}
@@ -40,17 +40,17 @@ cause-stays c h (l ∷ later) s =
 
 -- ---- calls that no opening is accepted among
 
-opening-stands : (x : Session) (a : Answer) → (openedBy x a .verdict ≡ Accepted → ⊥) → openedBy x a .session ≡ x
-opening-stands x (consist.Accepted c) n = absurd (n refl)
-opening-stands x (consist.Refused r) n = refl
+opening-stands : (x : Session) (v : Verdict) (c : Consist) → (v ≡ Accepted → ⊥) → openedBy x (v, c) .session ≡ x
+opening-stands x Accepted c n = absurd (n refl)
+opening-stands x (Refused r) c n = refl
 
 module _ (p : Program) (m : Meets p) where
   call-stands : (x : Session) (k : Call) (ks : List Call) → 0 < x .cause → NotOpenedAnew p x (k ∷ ks) → replyOf p x k .0 .session .cause ≡ x .cause
   unfolding openOf session.CauseStands session.afterSamples
   call-stands x (opening s) ks h n =
       let e = same p m .opens x s in
-      ap (λ (a : Answered). a .session .cause) e
-      ∙ ap (λ (y : Session). y .cause) (opening-stands x (readConsist s) (λ v. n .0 (ap (λ (a : Answered). a .verdict) e ∙ v)))
+      ap (λ (a : Answer). a .session .cause) e
+      ∙ ap (λ (y : Session). y .cause) (opening-stands x (readConsist s .0) (readConsist s .1) (λ v. n .0 (ap (λ (a : Answer). a .verdict) e ∙ v)))
   call-stands x (sampling l) ks h n =
       ap (λ (r : Reply). r .0 .session .cause) (same-reply p m x (sampling l)) ∙ session-laws.cause-stands x (l ∷ []) h
 

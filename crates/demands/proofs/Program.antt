@@ -3,7 +3,8 @@ use mathlib.Core.Path.{refl, ap}
 use mathlib.Core.List.{List, []}
 use Prim.Native.Nat.{ℕ}
 use denote.Ref.{RefT}
-use Rattle.session.specs.declared.Answer.{Answer}
+use Rattle.session.specs.Session.{callTold}
+use Rattle.session.proofs.Told.{session-one, answer-one, call-one}
 use Rattle.demands.specs.Program.{sampled, ours, OneProgram}
 
 -- a slice with these bytes; where it lies does not matter
@@ -16,13 +17,14 @@ one-program = record {
   meets = record {
     none = λ κs a x. refl;
     opens = λ κs a x. refl;
-    samples = λ κs a x h. ap {B = Answer × List ℕ} (λ (l : List ℕ). (sampled ours κs a .0, l)) h;
+    samples = λ κs a x h. ap (λ (l : List ℕ). callTold (sampled ours κs a .0, l)) h;
   };
   no-other = λ p h. record {
-    none = h .none tt tt tt;
-    opens = λ x s. h .opens ([], tt) (x, (lent s, tt)) (x, (lent s, tt));
+    none = session-one _ _ (h .none tt tt tt);
+    opens = λ x s. answer-one _ _ (h .opens ([], tt) (x, (lent s, tt)) (x, (lent s, tt)));
     samples = λ x s q t out.
-        h .samples ([], ([], ([], ([], tt)))) (x, (lent s, (lent q, (lent t, (lent out, tt)))))
-        (x, (lent s, (lent q, (lent t, (lent (p .samples x s q t out .1), tt))))) refl;
+        call-one _ _
+        (h .samples ([], ([], ([], ([], tt)))) (x, (lent s, (lent q, (lent t, (lent out, tt)))))
+        (x, (lent s, (lent q, (lent t, (lent (p .samples x s q t out .1), tt))))) refl);
   };
 }

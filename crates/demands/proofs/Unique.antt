@@ -16,6 +16,7 @@ use Rattle.demands.specs.Unique.{Unique}
 
 pub unique : Unique
 unique = record {
+  refusal-unless = λ l a r₁ r₂ x₁ x₂. refusal.unless-one l a r₁ r₂ x₁;
   refusal-number = λ l a r₁ r₂ x₁ x₂. refusal.number-one l a r₁ r₂ x₁;
   refusal-verdict-number = λ l a r₁ r₂ x₁ x₂. refusal.verdict-number-one l a r₁ r₂ x₁;
   consist-read = λ l a r₁ r₂ x₁ x₂. consist.read-one l a r₁ r₂ x₁;

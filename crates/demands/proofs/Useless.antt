@@ -6,6 +6,8 @@ use Prim.Native.Nat.{ℕ}
 use native.Mathlib.Omega.{arith}
 use lib.ListN.{take, drop}
 use borrow.Fn.World.{ArgsD}
+use Rattle.targets.specs.Targets.{most, speedsIn}
+use Rattle.decision.specs.Decision.{size}
 use Rattle.track.specs.Track.{layOf}
 use Rattle.walk.specs.declared.Prediction.{Prediction}
 use Rattle.walk.specs.Curve.{penaltyCurve}
@@ -22,7 +24,6 @@ use Rattle.demands.proofs.Same.{same, same-reply, same-after}
 use Rattle.demands.proofs.Decided.{before, decided}
 use Rattle.demands.proofs.Slices.{slice}
 use Rattle.demands.proofs.Case.{first, second, opened, standing, computed}
-use Rattle.targets.specs.Targets.{speedsIn}
 
 -- ---- what is lent in the case
 
@@ -87,8 +88,8 @@ module _ (p : Program) (m : Meets p) where
 
   told-otherwise : said two ≡ said one → ⊥
   told-otherwise e =
-      let one-told : said one ≡ 0 ∷ 0 ∷ 19 ∷ 136 ∷ [] = ap said one-is ∙ ap (λ (l : List ℕ). drop 4 (take 8 l)) (computed .first-line) in
-      let two-told : said two ≡ 17 ∷ 0 ∷ 19 ∷ 168 ∷ [] = ap said two-is ∙ ap (λ (l : List ℕ). drop 4 (take 8 l)) (computed .second-line) in
+      let one-told : said one ≡ 0 ∷ 0 ∷ 19 ∷ 136 ∷ [] = ap said one-is ∙ ap (λ (l : List ℕ). drop 4 (take size l)) (computed .first-line) in
+      let two-told : said two ≡ 17 ∷ 0 ∷ 19 ∷ 168 ∷ [] = ap said two-is ∙ ap (λ (l : List ℕ). drop 4 (take size l)) (computed .second-line) in
       let z : _≡_ {A = ℕ} 17 0 = cc in
       omega arith
 
@@ -146,7 +147,7 @@ walk-repeats-step w meets k =
     let admitted = before standing (second .sample) p (second .targets) (second .out) (computed .second-accepted) in
     let asked = walkable c b m p (predictable standing m p (ready standing (second .sample) p (second .targets) admitted)) in
     let curve = penaltyCurve c (b .a) (b .b) in
-    let speeds = speedsIn (second .targets) 8 in
+    let speeds = speedsIn (second .targets) most in
     let given : ArgsD signature tt = (c, (curve, (layOf p, (m .head, (m .speed, (speeds, tt)))))) in
     let found = meets tt given given asked in
     let z : _≡_ {A = ℕ} 5032 5048 =

@@ -12,35 +12,30 @@ use Rattle.refusal.specs.declared.Refusal.{Refusal}
 use Rattle.refusal.specs.declared.Refusal.the-variants.{NoSession, WrongLength, WrongMark, OutOfRange, TooLight, BrokenProfile, BrokenTargets, BadReading, WrongTime, NotCovered, TooFast, NoRoom}
 use Rattle.refusal.specs.declared.Verdict.the-variants as verdict
 use Rattle.refusal.specs.Number.{numberOf, numberOfVerdict}
+use Rattle.refusal.specs.Steps.{stepOf}
 use Rattle.refusal.specs.Lowest.{Rule}
 use Rattle.refusal.specs.Exactly.{Lowest}
+use Rattle.refusal.proofs.unless as refusal-unless
 use Rattle.refusal.proofs.number as refusal-number
 use Rattle.refusal.proofs.verdict_number as refusal-verdict-number
 use Rattle.consist.specs.Consist as consist
-use Rattle.consist.specs.declared.Answer.the-variants as consist-answer
 use Rattle.consist.proofs.read as consist-read
 use Rattle.consist.proofs.is_sound as consist-is-sound
 use Rattle.consist.proofs.write as consist-write
 use Rattle.profile.specs.Profile as profile
-use Rattle.profile.specs.declared.Judged.the-variants as profile-judged
 use Rattle.profile.proofs.judge as profile-judge
 use Rattle.profile.proofs.segment_at as profile-segment-at
 use Rattle.profile.proofs.write as profile-write
 use Rattle.targets.specs.Targets as targets
-use Rattle.targets.specs.declared.Judged.the-variants as targets-judged
 use Rattle.targets.proofs.judge as targets-judge
 use Rattle.targets.proofs.target_at as targets-target-at
 use Rattle.targets.proofs.write as targets-write
 use Rattle.sample.specs.Sample as sample
-use Rattle.sample.specs.declared.Layout.the-variants as sample-layout
-use Rattle.sample.specs.declared.Judged.the-variants as sample-judged
-use Rattle.sample.specs.declared.Answer.the-variants as sample-answer
 use Rattle.sample.proofs.lay_out as sample-lay-out
 use Rattle.sample.proofs.judge as sample-judge
 use Rattle.sample.proofs.read as sample-read
 use Rattle.sample.proofs.write as sample-write
 use Rattle.decision.specs.Decision as decision
-use Rattle.decision.specs.declared.Answer.the-variants as decision-answer
 use Rattle.decision.proofs.read as decision-read
 use Rattle.decision.proofs.write as decision-write
 use Rattle.session.specs.declared.Session.{Session}
@@ -51,7 +46,6 @@ use Rattle.session.proofs.is_open as session-is-open
 use Rattle.session.proofs.open as session-open
 use Rattle.session.proofs.sample as session-sample
 use Rattle.held.specs.Held as held
-use Rattle.held.specs.declared.Answer.the-variants as held-answer
 use Rattle.held.proofs.read as held-read
 use Rattle.held.proofs.write as held-write
 
@@ -100,11 +94,20 @@ module _ {A : Type 0} (numbers : List ℕ) (rules : List Rule) (refused : Refusa
     pub refuses : Refuses
     pub unchanged : (q : Refusal) → answer ≡ refused q → after ≡ before
 
+  -- a refused reader hands back no value but one that is fixed
+  pub record RefusesFixed {S : Type 0} (none value : S) : Type 0 where
+    pub refuses : Refuses
+    pub fixed : (q : Refusal) → answer ≡ refused q → value ≡ none
+
 -- ---- the public calls: `a` is what is given, from `a .0` on, `r` the answer, `x` what was given, after the call; `now` are the bytes of a slice.
 -- Of a call that refuses nothing, the answer is said. What is lent to a reader, it can't change.
 
 pub record Demand-1 : Type 2 where
   pub table : Table
+  -- whether a step of a reader or a writer goes on
+  pub refusal-unless :
+      PublicCall refusal-unless.Statement.statement refusal-unless.Reads.Asked refusal-unless.Reads.Post
+      (λ l a r x. r ≡ stepOf (a .0))
   -- the number that a refusal, and a verdict, carries
   pub refusal-number :
       PublicCall refusal-number.Statement.statement refusal-number.Reads.Asked refusal-number.Reads.Post
@@ -115,7 +118,7 @@ pub record Demand-1 : Type 2 where
   -- the consist: reader, test, writer
   pub consist-read :
       PublicCall consist-read.Statement.statement consist-read.Reads.Asked consist-read.Reads.Post
-      (λ l a r x. Refuses (2 ∷ 4 ∷ 5 ∷ []) (consist.readRules (now (a .0))) consist-answer.Refused r)
+      (λ l a r x. RefusesFixed (2 ∷ 4 ∷ 5 ∷ []) (consist.readRules (now (a .0))) verdict.Refused (r .verdict) consist.none (r .consist))
   pub consist-is-sound :
       PublicCall consist-is-sound.Statement.statement consist-is-sound.Reads.Asked consist-is-sound.Reads.Post
       (λ l a r x. r ≡ consist.isSound (a .0))
@@ -125,7 +128,7 @@ pub record Demand-1 : Type 2 where
   -- the profile: judge, one record, writer
   pub profile-judge :
       PublicCall profile-judge.Statement.statement profile-judge.Reads.Asked profile-judge.Reads.Post
-      (λ l a r x. Refuses (6 ∷ []) (profile.judgeRules (now (a .0))) profile-judged.Refused r)
+      (λ l a r x. RefusesFixed (6 ∷ []) (profile.judgeRules (now (a .0))) verdict.Refused (r .verdict) 0 (r .records))
   pub profile-segment-at :
       PublicCall profile-segment-at.Statement.statement profile-segment-at.Reads.Asked profile-segment-at.Reads.Post
       (λ l a r x. r ≡ profile.segmentAt (now (a .0)) (a .1 .0))
@@ -137,7 +140,7 @@ pub record Demand-1 : Type 2 where
   -- the targets: judge, one record, writer
   pub targets-judge :
       PublicCall targets-judge.Statement.statement targets-judge.Reads.Asked targets-judge.Reads.Post
-      (λ l a r x. Refuses (7 ∷ []) (targets.judgeRules (now (a .0))) targets-judged.Refused r)
+      (λ l a r x. RefusesFixed (7 ∷ []) (targets.judgeRules (now (a .0))) verdict.Refused (r .verdict) 0 (r .records))
   pub targets-target-at :
       PublicCall targets-target-at.Statement.statement targets-target-at.Reads.Asked targets-target-at.Reads.Post
       (λ l a r x. r ≡ targets.targetAt (now (a .0)) (a .1 .0))
@@ -147,20 +150,20 @@ pub record Demand-1 : Type 2 where
   -- the sample: layout, judgement of the readings, reader, writer
   pub sample-lay-out :
       PublicCall sample-lay-out.Statement.statement sample-lay-out.Reads.Asked sample-lay-out.Reads.Post
-      (λ l a r x. Refuses (2 ∷ 3 ∷ []) (sample.layoutRules (now (a .0))) sample-layout.Refused r)
+      (λ l a r x. RefusesFixed (2 ∷ 3 ∷ []) (sample.layoutRules (now (a .0))) verdict.Refused (r .verdict) sample.none (r .raw))
   pub sample-judge :
       PublicCall sample-judge.Statement.statement sample-judge.Reads.Asked sample-judge.Reads.Post
-      (λ l a r x. Refuses (8 ∷ []) (sample.judgeRules (a .0)) sample-judged.Refused r)
+      (λ l a r x. RefusesFixed (8 ∷ []) (sample.judgeRules (a .0)) verdict.Refused (r .verdict) sample.noSample (r .sample))
   pub sample-read :
       PublicCall sample-read.Statement.statement sample-read.Reads.Asked sample-read.Reads.Post
-      (λ l a r x. Refuses (2 ∷ 3 ∷ 8 ∷ []) (sample.readRules (now (a .0))) sample-answer.Refused r)
+      (λ l a r x. RefusesFixed (2 ∷ 3 ∷ 8 ∷ []) (sample.readRules (now (a .0))) verdict.Refused (r .verdict) sample.none (r .raw))
   pub sample-write :
       PublicCall sample-write.Statement.statement sample-write.Reads.Asked sample-write.Reads.Post
       (λ l a r x. let out = now (a .1 .0) in RefusesUnchanged (4 ∷ 8 ∷ 12 ∷ []) (sample.writeRules (a .0) out) verdict.Refused r out (now (x .1 .0)))
   -- the decision: reader, writer
   pub decision-read :
       PublicCall decision-read.Statement.statement decision-read.Reads.Asked decision-read.Reads.Post
-      (λ l a r x. Refuses (2 ∷ 3 ∷ 4 ∷ []) (decision.readRules (now (a .0))) decision-answer.Refused r)
+      (λ l a r x. RefusesFixed (2 ∷ 3 ∷ 4 ∷ []) (decision.readRules (now (a .0))) verdict.Refused (r .verdict) decision.none (r .decision))
   pub decision-write :
       PublicCall decision-write.Statement.statement decision-write.Reads.Asked decision-write.Reads.Post
       (λ l a r x. let out = now (a .1 .0) in RefusesUnchanged (4 ∷ 12 ∷ []) (decision.writeRules (a .0) out) verdict.Refused r out (now (x .1 .0)))
@@ -186,7 +189,7 @@ pub record Demand-1 : Type 2 where
   -- the session's record: reader, writer
   pub held-read :
       PublicCall held-read.Statement.statement held-read.Reads.Asked held-read.Reads.Post
-      (λ l a r x. Refuses (1 ∷ []) (held.readRules (now (a .0))) held-answer.Refused r)
+      (λ l a r x. RefusesFixed (1 ∷ []) (held.readRules (now (a .0))) verdict.Refused (r .verdict) noneOpen (r .session))
   pub held-write :
       PublicCall held-write.Statement.statement held-write.Reads.Asked held-write.Reads.Post
       (λ l a r x. let out = now (a .1 .0) in RefusesUnchanged (1 ∷ 12 ∷ []) (held.writeRules (a .0) out) verdict.Refused r out (now (x .1 .0)))

@@ -5,7 +5,7 @@ use mathlib.Core.Bool.{Bool, true}
 use mathlib.Core.List.{List, [], _∷_, _++_, map}
 use Prim.Native.Nat.{ℕ, _*_, _<_, min}
 use Rattle.consist.specs.declared.Consist.{Consist}
-use Rattle.targets.specs.Targets.{count, targetAt, speedsIn}
+use Rattle.targets.specs.Targets.{most, count, targetAt, speedsIn}
 use Rattle.decision.specs.declared.Decision.{Decision}
 use Rattle.track.specs.Track.{layOf}
 use Rattle.walk.specs.Curve.{forceAt, penaltyCurve}
@@ -58,11 +58,11 @@ module _ (c : Consist) (h : List Lent) (l : Lent) where
 
   pub record Located : Type 0 where
     pub stop : predictionAt c h l .stop ≡ locationFor 0
-    pub places : predictionAt c h l .places ≡ map locationFor (speedsIn (l .targets) 8)
+    pub places : predictionAt c h l .places ≡ map locationFor (speedsIn (l .targets) most)
     -- 11: "the walk's squared speed exceeds 1,000,000,000"
     pub fast : predictionAt c h l .fast ≡ isFast (placeAt 0)
     -- "The cause is the first such target"
-    pub call : callAt c h l ≡ firstFrom callsFor 0 (min (count (l .targets)) 8)
+    pub call : callAt c h l ≡ firstFrom callsFor 0 (min (count (l .targets)) most)
 
 unfoldable pub Locations : Type 0
 Locations = (c : Consist) (h : List Lent) (l : Lent) → Located c h l

@@ -3,11 +3,11 @@ use mathlib.Core.Path.{_≡_}
 use mathlib.Core.Bool.{true}
 use mathlib.Core.List.{[], _∷_}
 use lib.IntN.{pos, negsuc}
+use Rattle.refusal.specs.declared.Verdict.the-variants.{Accepted}
 use Rattle.hundredths.specs.declared.Reading.the-variants.{Hundredths}
 use Rattle.hundredths.specs.Figures.{pressureAt, speedAt}
 use Rattle.consist.specs.Figures.{train}
 use Rattle.decision.specs.declared.Decision.{Decision}
-use Rattle.decision.specs.declared.Answer.the-variants.{Accepted}
 use Rattle.decision.specs.Decision.{readDecision}
 use Rattle.brake.specs.Rules.{equalizationService, equalizationEmergency, combined, fallService}
 use Rattle.track.specs.Track.{gradeUnder}
@@ -52,5 +52,5 @@ pub record Figures : Type 0 where
   pub pressure : pressureAt 0x3f33_3333 ≡ Hundredths 69
   pub speed : speedAt 0x3f33_3333 ≡ Hundredths 70
   -- "P for the second line": what is decided on the sample 1, 5,000, 1.0, and its text
-  pub second-line : readDecision (sampleCall standing (sample 1 63 128) profile targets out .1) ≡ Accepted second
+  pub second-line : readDecision (sampleCall standing (sample 1 63 128) profile targets out .1) ≡ (Accepted, second)
   pub second-text : decisionText second ≡ 49 ∷ 32 ∷ 48 ∷ 32 ∷ 49 ∷ 32 ∷ 49 ∷ 32 ∷ 53 ∷ 48 ∷ 51 ∷ 50 ∷ 10 ∷ []

@@ -12,6 +12,6 @@ abbrev pub consistGiven : (κs : Lfts 1) → ArgsD buongilach-write-consist.sign
 consistGiven κs a =
     a .0 ∷ a .1 .0 ∷ a .1 .1 .0 ∷ a .1 .1 .1 .0 ∷ a .1 .1 .1 .1 .0 ∷ a .1 .1 .1 .1 .1 .0 ∷ a .1 .1 .1 .1 .1 .1 .0 ∷ a .1 .1 .1 .1 .1 .1 .1 .0 ∷ a .1 .1 .1 .1 .1 .1 .1 .1 .0 ∷ []
 
--- given as time, head, speed, front, present, rear
+-- given as time, head, speed, front, present, rear; present is any number but 0 where the rear is present
 abbrev pub sampleGiven : (κs : Lfts 1) → ArgsD buongilach-write-sample.signature κs → List ℕ
 sampleGiven κs a = sampleFields (a .0) (a .1 .1 .1 .1 .0) (a .1 .0) (a .1 .1 .0) (a .1 .1 .1 .0) (a .1 .1 .1 .1 .1 .0)

@@ -10,9 +10,11 @@ use Rattle.refusal.specs.declared.Refusal.the-variants.{BrokenProfile, BrokenTa
 use Rattle.consist.specs.declared.Consist.{Consist}
 use Rattle.profile.specs.Profile as profile
 use Rattle.targets.specs.Targets as targets
+use Rattle.targets.specs.Targets.{speedsIn, locationsIn}
 use Rattle.sample.specs.declared.Sample.{Sample}
 use Rattle.sample.specs.Sample.{layoutRules, rawIn, badReading}
 use Rattle.decision.specs.declared.Decision.{Decision}
+use Rattle.decision.specs.Decision as decision
 use Rattle.brake.specs.declared.Brake.{Brake}
 use Rattle.brake.specs.State.{stateNumber}
 use Rattle.brake.specs.Brake.{opened}
@@ -21,7 +23,6 @@ use Rattle.walk.specs.declared.Prediction.{Prediction}
 use Rattle.judge.specs.Judge.{causeOf}
 use Rattle.session.specs.Sample.{sampleIn, notCovered, predictionOf}
 use Rattle.session.specs.Laws.{Lent}
-use Rattle.targets.specs.Targets.{speedsIn, locationsIn}
 
 -- ---- "The air brakes, once a sample"
 
@@ -33,14 +34,14 @@ brakes c (l ∷ h) = let m = sampleIn (l .sample) in updateOf c (brakes c h) (m 
 
 -- "It starts after the update, with A, B and clock t = 0"
 unfoldable pub predictionAt : Consist → List Lent → Lent → Prediction
-predictionAt c h l = predictionOf c (brakes c (l ∷ h)) (sampleIn (l .sample)) (l .profile) (speedsIn (l .targets) 8)
+predictionAt c h l = predictionOf c (brakes c (l ∷ h)) (sampleIn (l .sample)) (l .profile) (speedsIn (l .targets) targets.most)
 
 -- the first target that it calls for the penalty by, 0 for none
 unfoldable pub callAt : Consist → List Lent → Lent → ℕ
 callAt c h l =
     let m = sampleIn (l .sample) in
     let t = l .targets in
-    causeOf (c .offset) (m .head) (m .speed) (targets.count t) (locationsIn t 8) (speedsIn t 8) (predictionAt c h l .places)
+    causeOf (c .offset) (m .head) (m .speed) (targets.count t) (locationsIn t targets.most) (speedsIn t targets.most) (predictionAt c h l .places)
 
 -- the calls of a history, the earliest first
 unfoldable pub callsIn : Consist → List Lent → List ℕ
@@ -81,5 +82,5 @@ rulesAt c h l =
     ∷ (wrongTimeAfter h (sampleIn (l .sample)), WrongTime)
     ∷ (notCovered c (l .profile) (sampleIn (l .sample)), NotCovered)
     ∷ (predictionAt c h l .fast, TooFast)
-    ∷ (noRoom 8 (l .out), NoRoom)
+    ∷ (noRoom decision.size (l .out), NoRoom)
     ∷ []

@@ -1,5 +1,6 @@
 -- What is demanded.
 pub mod Demand1
+pub mod Told
 pub mod Given
 pub mod Mounted1
 pub mod Program
@@ -7,6 +8,7 @@ pub mod History
 pub mod Run
 pub mod Demand2
 pub mod Mounted2
+pub mod Damage
 pub mod RoundTrips
 pub mod MountedRecords
 pub mod Demand3

@@ -3,20 +3,21 @@
 -- proofs/MountedPenalty.antt prove them.
 use mathlib.Core.Path.{_≡_}
 use mathlib.Core.Bool.{true}
-use mathlib.Core.List.{List, [], _∷_, map}
-use Prim.Native.Nat.{ℕ}
-use lib.ListN.{length, take}
+use mathlib.Core.List.{List, [], _∷_, _++_, map}
+use Prim.Native.Nat.{ℕ, _≤_}
+use lib.ListN.{length, take, drop}
 use borrow.Fn.World.{ArgsD}
 use contract.Lifetimes.{Lfts}
 use denote.Ref.{now}
 use denote.Triple.Clauses.{AtExit}
+use Rattle.refusal.specs.declared.Verdict.the-variants.{Accepted}
+use Rattle.refusal.specs.Number.{told}
 use Rattle.decision.specs.declared.Decision.{Decision}
-use Rattle.decision.specs.declared.Answer.the-variants as decision
+use Rattle.decision.specs.Decision as decision
 use Rattle.decision.specs.Decision.{readDecision}
 use Rattle.session.specs.Laws.{Lent}
-use Rattle.held.specs.Held.{bytesOf, noSession}
-use Rattle.mount.specs.Told.{told}
-use Rattle.mount.specs.Mount.{openBytes, Sampled, sampleBytes}
+use Rattle.held.specs.Held.{size, bytesOf, noSession}
+use Rattle.mount.specs.Mount.{front, openBytes, Sampled, sampleBytes}
 use Rattle.mount.proofs.buongilach_open as buongilach-open
 use Rattle.mount.proofs.buongilach_sample as buongilach-sample
 use Rattle.demands.specs.Run.{Call, opening, sampling, Reply, Standing, nothing, since, held, standingAfter, paperRun}
@@ -76,15 +77,15 @@ afterC c session (k ∷ ks) = afterC c (replyC c session k .1) ks
 abbrev pub toldOf : Reply → ℕ × List ℕ
 toldOf r = told (r .0 .verdict, r .1)
 
--- the bytes that hold what stands: the session's record, or what was there before any
+-- the bytes that hold what stands: the session's record, those past it as they were, or what was there before any
 abbrev pub heldIn : List ℕ → Standing → List ℕ
 heldIn session nothing = session
-heldIn session (since c h) = bytesOf (held (since c h))
+heldIn session (since c h) = bytesOf (held (since c h)) ++ drop size session
 
--- ---- whatever 36 bytes the customer begins with, an open session's apart
+-- ---- whatever bytes the customer begins with, as many as the record has or more, an open session's apart
 
 abbrev pub Unopened : List ℕ → Type 0
-Unopened session = (length session ≡ 36) × (noSession session ≡ true)
+Unopened session = (size ≤ length session) × (noSession (front session) ≡ true)
 
 -- what is told by every call of every run is the paper's
 unfoldable pub Mounted-2 : Type 0
@@ -101,7 +102,7 @@ RecordHeld =
 -- a sample call that tells 0, whose output reads as the decision d
 pub record DecidesC (r : Sampled) (d : Decision) : Type 0 where
   pub accepted : r .0 ≡ 0
-  pub reads : readDecision (take 8 (r .2)) ≡ decision.Accepted d
+  pub reads : readDecision (take decision.size (r .2)) ≡ (Accepted, d)
 
 -- no opening among the calls tells 0
 abbrev pub NotOpenedAnewC : Library → List ℕ → List Call → Type 0

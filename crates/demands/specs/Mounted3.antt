@@ -3,18 +3,19 @@
 use mathlib.Core.Path.{_≡_}
 use mathlib.Core.List.{List}
 use Prim.Native.Nat.{ℕ}
+use Rattle.refusal.specs.declared.Verdict.the-variants.{Accepted}
 use Rattle.decision.specs.declared.Decision.{Decision}
 use Rattle.session.specs.declared.Session.{Session}
 use Rattle.session.specs.Sample.{sampleIn}
-use Rattle.held.specs.declared.Answer.the-variants as held
 use Rattle.held.specs.Held.{readSession}
+use Rattle.mount.specs.Mount.{front}
 use Rattle.demands.specs.Demand3.{Worse, AsCautious}
 use Rattle.demands.specs.Mounted2.{Library, MeetsC, DecidesC}
 
--- of any two sample calls that tell 0, of any two libraries, whatever the sessions that the bytes read as
+-- of any two sample calls that tell 0, of any two libraries, whatever the sessions that the records at the front of the bytes read as
 unfoldable pub Mounted-3 : Type 0
 Mounted-3 =
     (c c′ : Library) → MeetsC c → MeetsC c′ → (session session′ s s′ profile targets out out′ : List ℕ) (one other : Session) (d d′ : Decision) →
-    readSession session ≡ held.Accepted one → readSession session′ ≡ held.Accepted other →
+    readSession (front session) ≡ (Accepted, one) → readSession (front session′) ≡ (Accepted, other) →
     DecidesC (c .samples session s profile targets out) d → DecidesC (c′ .samples session′ s′ profile targets out′) d′ →
     Worse one other (sampleIn s) (sampleIn s′) → AsCautious one other (sampleIn s) (sampleIn s′) profile targets d d′

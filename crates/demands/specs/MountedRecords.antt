@@ -5,14 +5,16 @@ use mathlib.Core.List.{List}
 use Prim.Native.Nat.{ℕ, _*_}
 use lib.ListN.{length, take, drop}
 use denote.Ref.{now}
-use Rattle.consist.specs.declared.Answer.the-variants as consist
+use Rattle.refusal.specs.declared.Verdict.the-variants.{Accepted}
+use Rattle.consist.specs.Consist as consist
 use Rattle.consist.specs.Consist.{readConsist, ofFields as consistOf}
-use Rattle.sample.specs.declared.Answer.the-variants as sample
+use Rattle.profile.specs.Profile as profile
+use Rattle.targets.specs.Targets as targets
+use Rattle.sample.specs.Sample as sample
 use Rattle.sample.specs.Sample.{readSample, ofFields as rawOf}
 use Rattle.decision.specs.declared.Decision.{Decision}
-use Rattle.decision.specs.declared.Answer.the-variants as decision
 use Rattle.decision.specs.Decision.{readDecision}
-use Rattle.mount.specs.Records.{numbersOf}
+use Rattle.mount.specs.Records.{decisionNumbers, numbersOf}
 use Rattle.mount.proofs.records.buongilach_write_consist.Reads as buongilach-write-consist
 use Rattle.mount.proofs.records.buongilach_write_profile.Reads as buongilach-write-profile
 use Rattle.mount.proofs.records.buongilach_write_targets.Reads as buongilach-write-targets
@@ -32,26 +34,26 @@ pub record MountedRecords : Type 0 where
   pub buongilach-write-consist :
       Says buongilach-write-consist.Post
       (λ l a r x.
-      WritesFirst 16 (λ s. readConsist s ≡ consist.Accepted (consistOf (consistGiven l a))) r
+      WritesFirst consist.size (λ s. readConsist s ≡ (Accepted, consistOf (consistGiven l a))) r
       (now (a .1 .1 .1 .1 .1 .1 .1 .1 .1 .0)) (now (x .1 .1 .1 .1 .1 .1 .1 .1 .1 .0)))
   pub buongilach-write-profile :
       Says buongilach-write-profile.Post
       (λ l a r x.
       let c : Segments = record { starts = now (a .0); grades = now (a .1 .0); curvatures = now (a .1 .1 .0) } in
-      WritesFirst (6 * length (c .starts)) (λ p. ReadsSegments p c) r (now (a .1 .1 .1 .0)) (now (x .1 .1 .1 .0)))
+      WritesFirst (profile.size * length (c .starts)) (λ p. ReadsSegments p c) r (now (a .1 .1 .1 .0)) (now (x .1 .1 .1 .0)))
   pub buongilach-write-targets :
       Says buongilach-write-targets.Post
       (λ l a r x.
       let c : Targets = record { locations = now (a .0); speeds = now (a .1 .0) } in
-      WritesFirst (5 * length (c .locations)) (λ t. ReadsTargets t c) r (now (a .1 .1 .0)) (now (x .1 .1 .0)))
+      WritesFirst (targets.size * length (c .locations)) (λ t. ReadsTargets t c) r (now (a .1 .1 .0)) (now (x .1 .1 .0)))
   pub buongilach-write-sample :
       Says buongilach-write-sample.Post
       (λ l a r x.
-      WritesFirst 20 (λ s. readSample s ≡ sample.Accepted (rawOf (sampleGiven l a))) r
+      WritesFirst sample.size (λ s. readSample s ≡ (Accepted, rawOf (sampleGiven l a))) r
       (now (a .1 .1 .1 .1 .1 .1 .0)) (now (x .1 .1 .1 .1 .1 .1 .0)))
   -- the numbers are time, state, penalty (1 or 0), cause and stop of the decision that the bytes read as
   pub buongilach-read-decision :
       Says buongilach-read-decision.Post
       (λ l a r x.
-      WritesFirst 5 (λ five. (d : Decision) × (readDecision (now (a .0)) ≡ decision.Accepted d) × (five ≡ numbersOf d)) r
+      WritesFirst decisionNumbers (λ five. (d : Decision) × (readDecision (now (a .0)) ≡ (Accepted, d)) × (five ≡ numbersOf d)) r
       (now (a .1 .0)) (now (x .1 .0)))

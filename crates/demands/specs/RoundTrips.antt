@@ -10,30 +10,29 @@ use Rattle.bits.specs.Bytes.{Bytes}
 use Rattle.bits.specs.Tables.{upTo}
 use Rattle.refusal.specs.declared.Verdict.{Verdict}
 use Rattle.refusal.specs.declared.Verdict.the-variants.{Accepted}
-use Rattle.consist.specs.declared.Answer.the-variants as consist
+use Rattle.consist.specs.Consist as consist
 use Rattle.consist.specs.Consist.{readConsist, writeConsist}
 use Rattle.consist.proofs.read.Reads as consist-read
 use Rattle.consist.proofs.write.Reads as consist-write
-use Rattle.profile.specs.declared.Judged.the-variants as profile
+use Rattle.profile.specs.Profile as profile
 use Rattle.profile.specs.Profile.{segmentAt, judgeProfile, writeProfile}
 use Rattle.profile.proofs.judge.Reads as profile-judge
 use Rattle.profile.proofs.segment_at.Reads as profile-segment-at
 use Rattle.profile.proofs.write.Reads as profile-write
-use Rattle.targets.specs.declared.Judged.the-variants as targets
+use Rattle.targets.specs.Targets as targets
 use Rattle.targets.specs.Targets.{targetAt, judgeTargets, writeTargets}
 use Rattle.targets.proofs.judge.Reads as targets-judge
 use Rattle.targets.proofs.target_at.Reads as targets-target-at
 use Rattle.targets.proofs.write.Reads as targets-write
-use Rattle.sample.specs.declared.Answer.the-variants as sample
+use Rattle.sample.specs.Sample as sample
 use Rattle.sample.specs.Sample.{readSample, writeSample}
-use Rattle.sample.specs.RoundTrip.{Binary32}
 use Rattle.sample.proofs.read.Reads as sample-read
 use Rattle.sample.proofs.write.Reads as sample-write
-use Rattle.decision.specs.declared.Answer.the-variants as decision
+use Rattle.decision.specs.Decision as decision
 use Rattle.decision.specs.Decision.{readDecision, writeDecision}
 use Rattle.decision.proofs.read.Reads as decision-read
 use Rattle.decision.proofs.write.Reads as decision-write
-use Rattle.held.specs.declared.Answer.the-variants as held
+use Rattle.held.specs.Held as held
 use Rattle.held.specs.Held.{readSession, writeSession}
 use Rattle.held.proofs.read.Reads as held-read
 use Rattle.held.proofs.write.Reads as held-write
@@ -47,17 +46,12 @@ use Rattle.demands.specs.Given.{consistGiven, sampleGiven}
 
 -- ---- the law
 
--- of any record: what is known of every c, how many bytes c takes, that bytes are accepted and read as c, the writer's verdict with the lent bytes afterwards
-pub record RoundTrip {C : Type 0} (Known : C → Type 0) (size : C → ℕ) (Reads : List ℕ → C → Type 0) (writes : C → List ℕ → Verdict × List ℕ)
-    : Type 0 where
+-- of any record: how many bytes c takes, that bytes are accepted and read as c, the writer's verdict with the lent bytes afterwards
+pub record RoundTrip {C : Type 0} (size : C → ℕ) (Reads : List ℕ → C → Type 0) (writes : C → List ℕ → Verdict × List ℕ) : Type 0 where
   -- "what is written reads back the same"
-  pub written-reads-back : (c : C) (out : List ℕ) → Known c → writes c out .0 ≡ Accepted → Reads (take (size c) (writes c out .1)) c
+  pub written-reads-back : (c : C) (out : List ℕ) → writes c out .0 ≡ Accepted → Reads (take (size c) (writes c out .1)) c
   -- "what is accepted would be written with the same bits"
   pub accepted-writes-back : (s out : List ℕ) (c : C) → Bytes s → length s ≤ length out → Reads s c → writes c out ≡ (Accepted, s ++ drop (length s) out)
-
--- no more than its type says
-abbrev pub Any : {C : Type 0} → C → Type 0
-Any c = Unit {0}
 
 -- a profile, as its writer is given it
 pub record Segments : Type 0 where
@@ -67,7 +61,7 @@ pub record Segments : Type 0 where
 
 -- p is accepted, with so many records, and these are their starts, grades and curvatures
 pub record ReadsSegments (p : List ℕ) (c : Segments) : Type 0 where
-  pub judged : judgeProfile p ≡ profile.Records (length (c .starts))
+  pub judged : judgeProfile p ≡ (Accepted, length (c .starts))
   pub starts : upTo (length (c .starts)) (λ k. segmentAt p k .start) ≡ c .starts
   pub grades : upTo (length (c .starts)) (λ k. segmentAt p k .grade) ≡ c .grades
   pub curvatures : upTo (length (c .starts)) (λ k. segmentAt p k .curvature) ≡ c .curvatures
@@ -79,7 +73,7 @@ pub record Targets : Type 0 where
 
 -- t is accepted, with so many records, and these are their locations and speeds
 pub record ReadsTargets (t : List ℕ) (c : Targets) : Type 0 where
-  pub judged : judgeTargets t ≡ targets.Records (length (c .locations))
+  pub judged : judgeTargets t ≡ (Accepted, length (c .locations))
   pub locations : upTo (length (c .locations)) (λ k. targetAt t k .location) ≡ c .locations
   pub speeds : upTo (length (c .locations)) (λ k. targetAt t k .speed) ≡ c .speeds
 
@@ -90,19 +84,19 @@ abbrev pub Says : {L : Type 0} {Given Answer Exit : L → Type 0} (Post Said : (
 Says {L} {Given} {Answer} {Exit} Post Said = (l : L) (a : Given l) (r : Answer l) (x : Exit l) → Post l a r x → Said l a r x
 
 pub record Contracts : Type 0 where
-  pub consist-read : Says consist-read.Post (λ l a r x. r ≡ readConsist (now (a .0)))
+  pub consist-read : Says consist-read.Post (λ l a r x. (r .verdict, r .consist) ≡ readConsist (now (a .0)))
   pub consist-write : Says consist-write.Post (λ l a r x. writeConsist (a .0) (now (a .1 .0)) ≡ (r, now (x .1 .0)))
-  pub profile-judge : Says profile-judge.Post (λ l a r x. r ≡ judgeProfile (now (a .0)))
+  pub profile-judge : Says profile-judge.Post (λ l a r x. (r .verdict, r .records) ≡ judgeProfile (now (a .0)))
   pub profile-segment-at : Says profile-segment-at.Post (λ l a r x. r ≡ segmentAt (now (a .0)) (a .1 .0))
   pub profile-write : Says profile-write.Post (λ l a r x. writeProfile (now (a .0)) (now (a .1 .0)) (now (a .1 .1 .0)) (now (a .1 .1 .1 .0)) ≡ (r, now (x .1 .1 .1 .0)))
-  pub targets-judge : Says targets-judge.Post (λ l a r x. r ≡ judgeTargets (now (a .0)))
+  pub targets-judge : Says targets-judge.Post (λ l a r x. (r .verdict, r .records) ≡ judgeTargets (now (a .0)))
   pub targets-target-at : Says targets-target-at.Post (λ l a r x. r ≡ targetAt (now (a .0)) (a .1 .0))
   pub targets-write : Says targets-write.Post (λ l a r x. writeTargets (now (a .0)) (now (a .1 .0)) (now (a .1 .1 .0)) ≡ (r, now (x .1 .1 .0)))
-  pub sample-read : Says sample-read.Post (λ l a r x. r ≡ readSample (now (a .0)))
+  pub sample-read : Says sample-read.Post (λ l a r x. (r .verdict, r .raw) ≡ readSample (now (a .0)))
   pub sample-write : Says sample-write.Post (λ l a r x. writeSample (a .0) (now (a .1 .0)) ≡ (r, now (x .1 .0)))
-  pub decision-read : Says decision-read.Post (λ l a r x. r ≡ readDecision (now (a .0)))
+  pub decision-read : Says decision-read.Post (λ l a r x. (r .verdict, r .decision) ≡ readDecision (now (a .0)))
   pub decision-write : Says decision-write.Post (λ l a r x. writeDecision (a .0) (now (a .1 .0)) ≡ (r, now (x .1 .0)))
-  pub held-read : Says held-read.Post (λ l a r x. r ≡ readSession (now (a .0)))
+  pub held-read : Says held-read.Post (λ l a r x. (r .verdict, r .session) ≡ readSession (now (a .0)))
   pub held-write : Says held-write.Post (λ l a r x. writeSession (a .0) (now (a .1 .0)) ≡ (r, now (x .1 .0)))
   -- for C; specs/MountedRecords.antt says how what they write reads
   pub buongilach-write-consist :
@@ -124,10 +118,10 @@ pub record Contracts : Type 0 where
 
 pub record RoundTrips : Type 0 where
   pub contracts : Contracts
-  pub consist : RoundTrip Any (λ c. 16) (λ s c. readConsist s ≡ consist.Accepted c) writeConsist
-  pub profile : RoundTrip Any (λ c. 6 * length (c .starts)) ReadsSegments (λ c. writeProfile (c .starts) (c .grades) (c .curvatures))
-  pub targets : RoundTrip Any (λ c. 5 * length (c .locations)) ReadsTargets (λ c. writeTargets (c .locations) (c .speeds))
-  -- each reading is a binary32, as every f32 of the code is
-  pub sample : RoundTrip Binary32 (λ raw. 20) (λ s raw. readSample s ≡ sample.Accepted raw) writeSample
-  pub decision : RoundTrip Any (λ d. 8) (λ s d. readDecision s ≡ decision.Accepted d) writeDecision
-  pub held : RoundTrip Any (λ x. 36) (λ s x. readSession s ≡ held.Accepted x) writeSession
+  pub consist : RoundTrip (λ c. consist.size) (λ s c. readConsist s ≡ (Accepted, c)) writeConsist
+  pub profile : RoundTrip (λ c. profile.size * length (c .starts)) ReadsSegments (λ c. writeProfile (c .starts) (c .grades) (c .curvatures))
+  pub targets : RoundTrip (λ c. targets.size * length (c .locations)) ReadsTargets (λ c. writeTargets (c .locations) (c .speeds))
+  -- over bit patterns: each reading is what its 32 bits stand for, as every f32 of the code is
+  pub sample : RoundTrip (λ fields. sample.size) (λ s fields. readSample s ≡ (Accepted, sample.ofFields fields)) (λ fields. writeSample (sample.ofFields fields))
+  pub decision : RoundTrip (λ d. decision.size) (λ s d. readDecision s ≡ (Accepted, d)) writeDecision
+  pub held : RoundTrip (λ x. held.size) (λ s x. readSession s ≡ (Accepted, x)) writeSession

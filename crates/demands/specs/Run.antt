@@ -5,6 +5,7 @@ use mathlib.Core.List.{List, [], _∷_}
 use Prim.Native.Nat.{ℕ}
 use lib.ListN.{take}
 use Rattle.refusal.specs.Lowest.{lowest}
+use Rattle.refusal.specs.Steps.{kept}
 use Rattle.refusal.specs.Written.{written}
 use Rattle.refusal.specs.declared.Refusal.the-variants.{NoSession}
 use Rattle.refusal.specs.declared.Verdict.{Verdict}
@@ -12,7 +13,7 @@ use Rattle.refusal.specs.declared.Verdict.the-variants.{Accepted, Refused}
 use Rattle.consist.specs.declared.Consist.{Consist}
 use Rattle.consist.specs.Consist.{consistIn, readRules}
 use Rattle.decision.specs.declared.Decision.{Decision}
-use Rattle.decision.specs.declared.Answer.the-variants as decision
+use Rattle.decision.specs.Decision as decision
 use Rattle.decision.specs.Decision.{bytesOf, readDecision}
 use Rattle.session.specs.declared.Session.{Session}
 use Rattle.session.specs.declared.Answer.{Answer}
@@ -54,7 +55,7 @@ Accepts r = r .0 .verdict ≡ Accepted
 -- an accepted sample call, whose output reads as the decision d
 pub record Decides (r : Reply) (d : Decision) : Type 0 where
   pub accepted : Accepts r
-  pub reads : readDecision (take 8 (r .1)) ≡ decision.Accepted d
+  pub reads : readDecision (take decision.size (r .1)) ≡ (Accepted, d)
 
 -- ---- of the paper
 
@@ -69,16 +70,11 @@ verdictAt st (opening s) = lowest (readRules s)
 verdictAt nothing (sampling l) = Refused NoSession
 verdictAt (since c h) (sampling l) = lowest (rulesAt c h l)
 
--- "if refused, an earlier session stays as it was"
-abbrev pub kept : Verdict → Standing → Standing → Standing
-kept Accepted old new = new
-kept (Refused r) old new = old
-
--- accepted, an opening begins a new history, and a sample is added to the one that stands
+-- "if refused, an earlier session stays as it was"; accepted, an opening begins a new history, and a sample is added to the one that stands
 abbrev pub next : Standing → Call → Standing
-next st (opening s) = kept (lowest (readRules s)) st (since (consistIn s) [])
+next st (opening s) = kept (lowest (readRules s)) (since (consistIn s) []) st
 next nothing (sampling l) = nothing
-next (since c h) (sampling l) = kept (lowest (rulesAt c h l)) (since c h) (since c (l ∷ h))
+next (since c h) (sampling l) = kept (lowest (rulesAt c h l)) (since c (l ∷ h)) (since c h)
 
 -- unchanged where refused; "It writes the first 8 output bytes only."
 abbrev pub outAt : Standing → Call → List ℕ

@@ -4,6 +4,7 @@ use mathlib.Core.Path.{_≡_}
 use mathlib.Core.List.{List}
 use Prim.Native.Nat.{ℕ}
 use denote.Ref.{now}
+use Rattle.refusal.proofs.unless.Reads as refusal-unless
 use Rattle.refusal.proofs.number.Reads as refusal-number
 use Rattle.refusal.proofs.verdict_number.Reads as refusal-verdict-number
 use Rattle.consist.proofs.read.Reads as consist-read
@@ -52,6 +53,7 @@ module _ {L : Type 0} {Given Answer Exit : L → Type 0} (Post : (l : L) → Giv
       → _≡_ {A = Answer l × Lent} (r₁, lent l x₁) (r₂, lent l x₂)
 
 pub record Unique : Type 0 where
+  pub refusal-unless : One refusal-unless.Post
   pub refusal-number : One refusal-number.Post
   pub refusal-verdict-number : One refusal-verdict-number.Post
   pub consist-read : One consist-read.Post

@@ -12,6 +12,7 @@ use Rattle.refusal.specs.declared.Refusal.{Refusal}
 use Rattle.refusal.specs.declared.Verdict.the-variants.{Refused}
 use Rattle.consist.specs.declared.Consist.{Consist}
 use Rattle.decision.specs.declared.Decision.{Decision}
+use Rattle.decision.specs.Decision as decision
 use Rattle.track.specs.declared.Track.{Track}
 use Rattle.track.specs.Track.{layOf}
 use Rattle.walk.specs.declared.Curve.{Curve}
@@ -65,7 +66,7 @@ RefusesSamples p = EverySample p (λ x l r. IsRefused r)
 
 -- what a decision tells after its mark and time: brake state, penalty, cause and stopping location
 abbrev pub said : Reply → List ℕ
-said r = drop 4 (take 8 (r .1))
+said r = drop 4 (take decision.size (r .1))
 
 -- the same in every sample call that it accepts
 abbrev pub Constant : Program → Type 0

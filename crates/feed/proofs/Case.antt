@@ -1,7 +1,5 @@
 -- The case of document 01 as one feed, computed. Assumes nothing.
 use mathlib.Core.Path.{refl}
-use Rattle.profile.specs.Profile.{judgeProfile}
-use Rattle.targets.specs.Targets.{judgeTargets}
 use Rattle.session.proofs.Computing.{computing}
 use Rattle.feed.specs.Opening.{profileAhead, targetsAhead, taken}
 use Rattle.feed.specs.Line.{lastDigits, decimal, decisionText, refusalText}
@@ -9,7 +7,7 @@ use Rattle.feed.specs.Output.{linesOf, outputOf}
 use Rattle.feed.specs.Case.{Case}
 
 pub computed : Case
-unfolding computing judgeProfile judgeTargets profileAhead targetsAhead taken lastDigits decimal decisionText refusalText linesOf outputOf
+unfolding computing profileAhead targetsAhead taken lastDigits decimal decisionText refusalText linesOf outputOf
 computed = record {
   whole-output = refl;
   short-sample = refl;

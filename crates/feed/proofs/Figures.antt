@@ -1,13 +1,12 @@
 -- The figures of the lines and of the counts, computed. Assumes nothing.
 use mathlib.Core.Path.{refl}
-use Rattle.profile.specs.Profile as profile
-use Rattle.targets.specs.Targets as targets
+use Rattle.table.specs.Table.{counted}
 use Rattle.feed.specs.Opening.{profileAhead, targetsAhead}
 use Rattle.feed.specs.Line.{lastDigits, decimal, decisionText, refusalText}
 use Rattle.feed.specs.Figures.{Figures}
 
 pub figures : Figures
-unfolding lastDigits decimal decisionText refusalText profile.counted targets.counted profileAhead targetsAhead
+unfolding lastDigits decimal decisionText refusalText counted profileAhead targetsAhead
 figures = record {
   first-line = refl;
   second-line = refl;

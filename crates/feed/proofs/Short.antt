@@ -10,7 +10,9 @@ use Rattle.refusal.specs.declared.Refusal.the-variants.{WrongLength}
 use Rattle.refusal.specs.declared.Verdict.{Verdict}
 use Rattle.refusal.specs.declared.Verdict.the-variants.{Accepted, Refused}
 use Rattle.refusal.proofs.Order.{given, passed}
-use Rattle.sample.specs.Sample.{wrongLength}
+use Rattle.record.specs.Record.{wrongLength}
+use Rattle.sample.specs.Sample.{size}
+use Rattle.decision.specs.Decision as decision
 use Rattle.session.specs.declared.Session.{Session}
 use Rattle.session.specs.declared.Answer.{Answer}
 use Rattle.session.specs.Session.{isOpen, refusedWith}
@@ -23,11 +25,11 @@ use Rattle.feed.specs.Output.{linesOf}
 use Rattle.feed.specs.Short.{ShortLast}
 
 module _ (x : Session) (s p t out : List ℕ) (o : isOpen x ≡ true) where
-  short-call : length s < 20 → sampleCall x s p t out ≡ (refusedWith x WrongLength, out)
+  short-call : length s < size → sampleCall x s p t out ≡ (refusedWith x WrongLength, out)
   unfolding wrongLength
   short-call h =
-      let n : length s ≡ 20 → ⊥ = λ e. omega arith in
-      call-before x s p t out WrongLength (passed _ _ _ (ap not o) ∙ given _ _ _ tt (ap not (ne-eqb (length s) 20 n)))
+      let n : length s ≡ size → ⊥ = λ e. omega arith in
+      call-before x s p t out WrongLength (passed _ _ _ (ap not o) ∙ given _ _ _ tt (ap not (ne-eqb (length s) size n)))
 
   -- accepted or refused, the session is open afterwards
   still-open : isOpen (sampleCall x s p t out .0 .session) ≡ true
@@ -41,9 +43,9 @@ module _ (x : Session) (s p t out : List ℕ) (o : isOpen x ≡ true) where
 pub short-last : ShortLast
 unfolding ShortLast linesOf
 short-last x p t [] s o h =
-    ap (λ (a : Answer × List ℕ). sampleText (a .0 .verdict) (a .1) ++ []) (short-call x s p t (replicate 8 0) o h) ∙ append-nil (refusalText WrongLength)
+    ap (λ (a : Answer × List ℕ). sampleText (a .0 .verdict) (a .1) ++ []) (short-call x s p t (replicate decision.size 0) o h) ∙ append-nil (refusalText WrongLength)
 short-last x p t (a ∷ ss) s o h =
-    let answer = sampleCall x a p t (replicate 8 0) in
+    let answer = sampleCall x a p t (replicate decision.size 0) in
     let text = sampleText (answer .0 .verdict) (answer .1) in
-    ap (λ (l : List ℕ). text ++ l) (short-last (answer .0 .session) p t ss s (still-open x a p t (replicate 8 0) o) h)
+    ap (λ (l : List ℕ). text ++ l) (short-last (answer .0 .session) p t ss s (still-open x a p t (replicate decision.size 0) o) h)
     ∙ sym (append-assoc text (linesOf (answer .0 .session) p t ss) (refusalText WrongLength))

@@ -7,11 +7,9 @@ use lib.ListN.{length, take, drop}
 use lib.Dec.{ltb}
 use Rattle.refusal.specs.declared.Refusal.{Refusal}
 use Rattle.refusal.specs.declared.Verdict.{Verdict}
-use Rattle.refusal.specs.declared.Verdict.the-variants as verdict
+use Rattle.refusal.specs.declared.Verdict.the-variants.{Accepted, Refused}
 use Rattle.refusal.specs.Number.{numberOf}
 use Rattle.decision.specs.declared.Decision.{Decision}
-use Rattle.decision.specs.declared.Answer.{Answer}
-use Rattle.decision.specs.declared.Answer.the-variants as answer
 use Rattle.bits.specs.Fields.{bit}
 use Rattle.decision.specs.Decision.{readDecision}
 
@@ -63,15 +61,18 @@ decisionText d = spaced (d .time ∷ d .state ∷ bit (d .penalty) ∷ d .cause 
 unfoldable pub refusalText : Refusal → List ℕ
 refusalText r = cross ∷ space ∷ spaced (numberOf r ∷ [])
 
--- the line of what is read back from a record
-abbrev pub recordText : Answer → List ℕ
-recordText (answer.Accepted d) = decisionText d
-recordText (answer.Refused r) = refusalText r
+-- by a verdict: the text where it accepts, "or `x` and the number"
+abbrev pub unlessRefused : Verdict → List ℕ → List ℕ
+unlessRefused Accepted text = text
+unlessRefused (Refused r) text = refusalText r
 
--- "Each sample prints one line": that of the record, where the call was accepted, "or `x` and the number"
+-- the line of what is read back from a record
+abbrev pub recordText : Verdict × Decision → List ℕ
+recordText answer = unlessRefused (answer .0) (decisionText (answer .1))
+
+-- "Each sample prints one line": that of the record, where the call was accepted
 abbrev pub sampleText : Verdict → List ℕ → List ℕ
-sampleText verdict.Accepted s = recordText (readDecision s)
-sampleText (verdict.Refused r) s = refusalText r
+sampleText v s = unlessRefused v (recordText (readDecision s))
 
 -- ---- where it stands: the text before a place of the lent bytes, the place where it begins, and no other byte changed
 

@@ -1,54 +1,57 @@
 -- The whole output of a feed: where its parts lie, and what is printed of them. Definitions only.
-use Prim.Native.Nat.{ℕ, _+_, _/_}
+use Prim.Native.Nat.{ℕ, _+_, _-_, _/_}
 use mathlib.Core.List.{List, [], _∷_, _++_}
 use lib.ListN.{length, take, drop, replicate}
 use Rattle.bits.specs.Tables.{upTo, part}
 use Rattle.refusal.specs.declared.Refusal.the-variants.{BrokenProfile, BrokenTargets}
 use Rattle.refusal.specs.declared.Verdict.{Verdict}
 use Rattle.refusal.specs.declared.Verdict.the-variants.{Accepted, Refused}
+use Rattle.consist.specs.Consist as consist
+use Rattle.sample.specs.Sample as sample
+use Rattle.decision.specs.Decision as decision
 use Rattle.session.specs.declared.Session.{Session}
 use Rattle.session.specs.Session.{noneOpen}
 use Rattle.session.specs.Open.{openOf}
 use Rattle.session.specs.Sample.{sampleCall}
 use Rattle.feed.specs.declared.opening.Part.{Part}
 use Rattle.feed.specs.declared.opening.Part.the-variants.{Bytes, Broken}
-use Rattle.feed.specs.Opening.{bytesIn, profileAhead, targetsAhead, profileTaken, targetsTaken}
+use Rattle.feed.specs.Opening.{bytesIn, profileCountSize, targetsCountSize, profileAhead, targetsAhead, profileTaken, targetsTaken}
 use Rattle.feed.specs.Line.{refusalText, sampleText}
 
 -- ---- "The session program reads standard input": each part takes its bytes from what is left, or as many as there are
 
 -- "consist"
 abbrev pub consistBytes : List ℕ → List ℕ
-consistBytes feed = take 16 feed
+consistBytes feed = take consist.size feed
 
 abbrev pub afterConsist : List ℕ → List ℕ
-afterConsist feed = drop 16 feed
+afterConsist feed = drop consist.size feed
 
 -- "two-byte record count (high byte first)"
 abbrev pub profileAnnounced : List ℕ → Part
-profileAnnounced feed = profileAhead (take 2 (afterConsist feed))
+profileAnnounced feed = profileAhead (take profileCountSize (afterConsist feed))
 
 -- "and profile"
 abbrev pub profileBytes : List ℕ → List ℕ
-profileBytes feed = take (bytesIn (profileAnnounced feed)) (drop 2 (afterConsist feed))
+profileBytes feed = take (bytesIn (profileAnnounced feed)) (drop profileCountSize (afterConsist feed))
 
 abbrev pub afterProfile : List ℕ → List ℕ
-afterProfile feed = drop (2 + bytesIn (profileAnnounced feed)) (afterConsist feed)
+afterProfile feed = drop (profileCountSize + bytesIn (profileAnnounced feed)) (afterConsist feed)
 
 -- "one-byte count"
 abbrev pub targetsAnnounced : List ℕ → Part
-targetsAnnounced feed = targetsAhead (take 1 (afterProfile feed))
+targetsAnnounced feed = targetsAhead (take targetsCountSize (afterProfile feed))
 
 -- "and targets"
 abbrev pub targetsBytes : List ℕ → List ℕ
-targetsBytes feed = take (bytesIn (targetsAnnounced feed)) (drop 1 (afterProfile feed))
+targetsBytes feed = take (bytesIn (targetsAnnounced feed)) (drop targetsCountSize (afterProfile feed))
 
 abbrev pub afterTargets : List ℕ → List ℕ
-afterTargets feed = drop (1 + bytesIn (targetsAnnounced feed)) (afterProfile feed)
+afterTargets feed = drop (targetsCountSize + bytesIn (targetsAnnounced feed)) (afterProfile feed)
 
 -- "then samples": 20 bytes each, as many as were begun; the last may be short
 abbrev pub sampleBytes : List ℕ → List (List ℕ)
-sampleBytes feed = let s = afterTargets feed in upTo ((length s + 19) / 20) (part 20 s)
+sampleBytes feed = let s = afterTargets feed in upTo ((length s + (sample.size - 1)) / sample.size) (part sample.size s)
 
 -- ---- what is printed
 
@@ -57,7 +60,7 @@ sampleBytes feed = let s = afterTargets feed in upTo ((length s + 19) / 20) (par
 unfoldable pub linesOf : Session → List ℕ → List ℕ → List (List ℕ) → List ℕ
 linesOf x p t [] = []
 linesOf x p t (s ∷ ss) =
-    let answer = sampleCall x s p t (replicate 8 0) in
+    let answer = sampleCall x s p t (replicate decision.size 0) in
     let rest = linesOf (answer .0 .session) p t ss in
     sampleText (answer .0 .verdict) (answer .1) ++ rest
 

@@ -5,9 +5,9 @@ use Prim.Native.Nat.{ℕ}
 use lib.ListN.{take}
 use Rattle.refusal.specs.declared.Verdict.the-variants.{Accepted}
 use Rattle.decision.specs.declared.Decision.{Decision}
-use Rattle.decision.specs.Decision.{writeDecision}
+use Rattle.decision.specs.Decision.{size, writeDecision}
 use Rattle.feed.specs.Line.{decisionText, sampleText}
 
 unfoldable pub WrittenIsPrinted : Type 0
 WrittenIsPrinted =
-    (d : Decision) (out : List ℕ) → writeDecision d out .0 ≡ Accepted → sampleText Accepted (take 8 (writeDecision d out .1)) ≡ decisionText d
+    (d : Decision) (out : List ℕ) → writeDecision d out .0 ≡ Accepted → sampleText Accepted (take size (writeDecision d out .1)) ≡ decisionText d

@@ -4,12 +4,17 @@
 mod line;
 mod opening;
 
+use consist::Consist;
+use decision::Decision;
 use line::ROOM;
+use opening::PROFILE_COUNT_SIZE;
 use opening::PROFILE_ROOM;
 use opening::Part;
+use opening::TARGETS_COUNT_SIZE;
 use opening::TARGETS_ROOM;
 use refusal::Refusal;
 use refusal::Verdict;
+use sample::RawSample;
 use session::Answer;
 use session::Session;
 ghost use Prim.Native.Nat.{_≤_};
@@ -44,7 +49,7 @@ fn print_sample(output: i32, v: Verdict, decision: &[u8]) -> bool {
 }
 
 fn read_consist(input: i32) -> Answer {
-    let mut consist = [0u8; 16];
+    let mut consist = [0u8; Consist::SIZE];
     let n = io::read_full(input, &mut consist);
     session::open(session::none(), &consist[..n])
 }
@@ -62,7 +67,7 @@ fn read_profile(input: i32, p: &mut [u8]) -> Part
     requires { ⌜ profileRoom ≤ length (now p) ⌝ }
     ensures { λ r. ⌜ bytesIn r ≤ length (now (p .exit)) ⌝ }
 {
-    let mut count = [0u8; 2];
+    let mut count = [0u8; PROFILE_COUNT_SIZE];
     let n = io::read_full(input, &mut count);
     let ahead = opening::profile_ahead(&count[..n]);
     let came = read_front(input, opening::bytes_in(ahead), p);
@@ -74,7 +79,7 @@ fn read_targets(input: i32, t: &mut [u8]) -> Part
     requires { ⌜ targetsRoom ≤ length (now t) ⌝ }
     ensures { λ r. ⌜ bytesIn r ≤ length (now (t .exit)) ⌝ }
 {
-    let mut count = [0u8; 1];
+    let mut count = [0u8; TARGETS_COUNT_SIZE];
     let n = io::read_full(input, &mut count);
     let ahead = opening::targets_ahead(&count[..n]);
     let came = read_front(input, opening::bytes_in(ahead), t);
@@ -83,7 +88,7 @@ fn read_targets(input: i32, t: &mut [u8]) -> Part
 
 // Reads a sample, judges it and prints its line. No other follows one that is cut short, or whose line can't be written.
 fn answer_one(input: i32, output: i32, x: Session, p: &[u8], t: &[u8]) -> Turn {
-    let mut sample = [0u8; 20];
+    let mut sample = [0u8; RawSample::SIZE];
     let n = io::read_full(input, &mut sample);
     if n == 0 {
         return Turn {
@@ -91,7 +96,7 @@ fn answer_one(input: i32, output: i32, x: Session, p: &[u8], t: &[u8]) -> Turn {
             more: false,
         };
     }
-    let mut decision = [0u8; 8];
+    let mut decision = [0u8; Decision::SIZE];
     let answer = session::sample(x, &sample[..n], p, t, &mut decision);
     let session = answer.session;
     let verdict = answer.verdict;

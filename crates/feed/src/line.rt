@@ -1,6 +1,5 @@
 // The lines that the session program prints. A line is built from its end, since a number's last digit is the first that a
 // division gives.
-use decision::Answer;
 use decision::Decision;
 use refusal::Refusal;
 use refusal::Verdict;
@@ -96,9 +95,11 @@ fn put_record(s: &[u8], out: &mut [u8; ROOM]) -> usize
     ensures { λ n. ⌜ (n, now (out .exit)) ≡ putLast (recordText (readDecision (now (s .entry)))) (now (out .entry)) ⌝ }
     ensures { λ n. ⌜ Inside n (now (out .exit)) ⌝ }
 {
-    match decision::read(s) {
-        Answer::Accepted(d) => put_decision(d, out),
-        Answer::Refused(r) => put_refusal(r, out),
+    let read = decision::read(s);
+    let verdict = read.verdict;
+    match verdict {
+        Verdict::Accepted => put_decision(read.decision, out),
+        Verdict::Refused(why) => put_refusal(why, out),
     }
 }
 

@@ -1,24 +1,23 @@
 // What opens a feed: the counts, and the lists that they announce.
+use profile::Segment;
+use refusal::Verdict;
+use targets::Target;
 ghost use mathlib.Core.Path.{_≡_};
 ghost use mathlib.Core.Bool.{_&&_};
 ghost use Prim.Native.Nat.{_*_, _^_, _<_, _≤_};
 ghost use lib.Dec.{leb};
 ghost use lib.ListN.{length};
-ghost use Rattle.feed.specs.Opening.{bytesIn, profileRoom, targetsRoom, announced, profileAhead, targetsAhead, profileRight, targetsRight, taken, profileTaken, targetsTaken};
+ghost use Rattle.feed.specs.Opening.{bytesIn, profileRoom, targetsRoom, announced, profileAhead, targetsAhead, isAccepted, taken, profileTaken, targetsTaken};
 
-// The most records that a list may have, and the bytes of each.
-const PROFILE_MOST: usize = 257;
+// Bytes of the count that stands before each list.
+pub const PROFILE_COUNT_SIZE: usize = 2;
 
-const PROFILE_SIZE: usize = 6;
-
-const TARGETS_MOST: usize = 8;
-
-const TARGETS_SIZE: usize = 5;
+pub const TARGETS_COUNT_SIZE: usize = 1;
 
 // Bytes that hold the longest list.
-pub const PROFILE_ROOM: usize = PROFILE_SIZE * PROFILE_MOST;
+pub const PROFILE_ROOM: usize = Segment::SIZE * Segment::MOST;
 
-pub const TARGETS_ROOM: usize = TARGETS_SIZE * TARGETS_MOST;
+pub const TARGETS_ROOM: usize = Target::SIZE * Target::MOST;
 
 // A part of the feed: how many bytes it has, or that it breaks a rule.
 pub enum Part {
@@ -57,7 +56,13 @@ pub(crate) fn profile_ahead(count: &[u8]) -> Part
     ensures { λ r. ⌜ r ≡ profileAhead (now (count .entry)) ⌝ }
     ensures { λ r. ⌜ bytesIn r ≤ profileRoom ⌝ }
 {
-    announced(count, 2, 2, PROFILE_MOST, PROFILE_SIZE)
+    announced(
+        count,
+        PROFILE_COUNT_SIZE,
+        Segment::FEWEST,
+        Segment::MOST,
+        Segment::SIZE,
+    )
 }
 
 // The targets that a count announces.
@@ -65,24 +70,15 @@ pub(crate) fn targets_ahead(count: &[u8]) -> Part
     ensures { λ r. ⌜ r ≡ targetsAhead (now (count .entry)) ⌝ }
     ensures { λ r. ⌜ bytesIn r ≤ targetsRoom ⌝ }
 {
-    announced(count, 1, 0, TARGETS_MOST, TARGETS_SIZE)
+    announced(count, TARGETS_COUNT_SIZE, 0, Target::MOST, Target::SIZE)
 }
 
-fn profile_right(j: profile::Judged) -> bool
-    ensures { λ r. ⌜ r ≡ profileRight j ⌝ }
+fn is_accepted(v: Verdict) -> bool
+    ensures { λ r. ⌜ r ≡ isAccepted v ⌝ }
 {
-    match j {
-        profile::Judged::Records(_) => true,
-        profile::Judged::Refused(_) => false,
-    }
-}
-
-fn targets_right(j: targets::Judged) -> bool
-    ensures { λ r. ⌜ r ≡ targetsRight j ⌝ }
-{
-    match j {
-        targets::Judged::Records(_) => true,
-        targets::Judged::Refused(_) => false,
+    match v {
+        Verdict::Accepted => true,
+        Verdict::Refused(_) => false,
     }
 }
 
@@ -106,7 +102,9 @@ pub(crate) fn profile_taken(ahead: Part, p: &[u8]) -> Part
     ensures { λ r. ⌜ r ≡ profileTaken ahead (now (p .entry)) ⌝ }
     ensures { λ r. ⌜ bytesIn r ≤ length (now (p .entry)) ⌝ }
 {
-    taken(ahead, p.len(), profile_right(profile::judge(p)))
+    let judged = profile::judge(p);
+    let verdict = judged.verdict;
+    taken(ahead, p.len(), is_accepted(verdict))
 }
 
 // The targets that came, where these were announced.
@@ -114,5 +112,7 @@ pub(crate) fn targets_taken(ahead: Part, t: &[u8]) -> Part
     ensures { λ r. ⌜ r ≡ targetsTaken ahead (now (t .entry)) ⌝ }
     ensures { λ r. ⌜ bytesIn r ≤ length (now (t .entry)) ⌝ }
 {
-    taken(ahead, t.len(), targets_right(targets::judge(t)))
+    let judged = targets::judge(t);
+    let verdict = judged.verdict;
+    taken(ahead, t.len(), is_accepted(verdict))
 }

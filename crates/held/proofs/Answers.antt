@@ -1,92 +1,95 @@
--- What the reader and the writer answer, one condition after the other, and what the answers tell. Assumes nothing.
-use mathlib.Core.Path.{_≡_, refl, sym, ap, _∙_}
-use Prim.Native.Nat.{ℕ, _≤_, _<_}
+-- What the reader and the writer answer, and what the answers tell. Assumes nothing.
+use mathlib.Core.Path.{_≡_, ap}
+use Prim.Native.Nat.{ℕ, _≤_}
 use native.Mathlib.Omega.{arith}
-use mathlib.Core.Bool.{true, false, not, _||_, or-true}
-use mathlib.Core.List.{List, _++_}
-use lib.ListN.{length, drop}
-use lib.Dec.{eqb}
-use borrow.Author.Tests.{lt-ltb, le-ltb, ltb-false, eq-eqb, ne-eqb, eqb-true, not-false}
+use mathlib.Core.Bool.{Bool, true, false, not, _||_, not-eq-not}
+use mathlib.Core.List.{List, [], _∷_, _++_}
+use lib.ListN.{length, getD, drop, length-take, length-drop}
+use lib.Dec.{eqb, ltb}
+use borrow.Author.Tests.{le-ltb, ltb-false, eq-eqb, eqb-true, not-false}
 use Rattle.bits.proofs.Ranges.{neither}
+use Rattle.refusal.specs.Steps.{kept}
 use Rattle.refusal.specs.Written.{noRoom, written}
+use Rattle.refusal.specs.declared.Refusal.{Refusal}
 use Rattle.refusal.specs.declared.Refusal.the-variants.{NoSession, NoRoom}
-use Rattle.refusal.specs.declared.Verdict.{Verdict}
-use Rattle.refusal.specs.declared.Verdict.the-variants as verdict
-use Rattle.refusal.proofs.Order.{given, passed, last-passed, accepted, written-accepted}
+use Rattle.refusal.specs.declared.Verdict.the-variants.{Accepted, Refused}
+use Rattle.refusal.proofs.Order.{accepted, written-accepted}
+use Rattle.refusal.proofs.Steps.{firstOf, in-order}
+use Rattle.record.specs.Record.{wrongLength}
+use Rattle.seal.specs.Seal.{sealed, isSealed}
 use Rattle.consist.specs.Consist as consist
+use Rattle.consist.proofs.Answers as consist-answers
+use Rattle.consist.proofs.Sound as consist-sound
 use Rattle.session.specs.declared.Session.{Session}
 use Rattle.session.specs.Session.{isOpen}
-use Rattle.held.specs.declared.Answer.the-variants.{Accepted, Refused}
-use Rattle.held.specs.Held.{fieldsAt, sessionIn, bytesOf, notHeld, noSession, answer, readSession, writeSession}
+use Rattle.session.proofs.Admitted.{opened}
+use Rattle.held.specs.Held.{mark, fieldsAt, consistAt, sessionIn, bytesOf, noRecord, noSession, answer, readRules, readSession, writeRules, writeSession}
 
--- ---- the reader
+-- ---- bytes that are a record
+
+pub record IsRecord (s : List ℕ) : Type 0 where
+  pub size : length s ≡ 40
+  pub seal : isSealed s ≡ true
+  pub marked : getD (fieldsAt s) 0 0 ≡ mark
+  pub state : getD (fieldsAt s) 3 0 ≤ 5
 
 module _ (s : List ℕ) where
-  refused : noSession s ≡ true → readSession s ≡ Refused NoSession
+  pub is-record : noRecord s ≡ false → IsRecord s
+  unfolding noRecord wrongLength
+  is-record h =
+      let l = eqb (length s) 40 in
+      let m = eqb (getD (fieldsAt s) 0 0) mark in
+      let x = neither (not l || not (isSealed s) || not m) (ltb 5 (getD (fieldsAt s) 3 0)) h in
+      let y = neither (not l || not (isSealed s)) (not m) (x .0) in
+      let z = neither (not l) (not (isSealed s)) (y .0) in
+      record {
+        size = eqb-true (length s) 40 (not-false l (z .0));
+        seal = not-false (isSealed s) (z .1);
+        marked = eqb-true (getD (fieldsAt s) 0 0) mark (not-false m (y .1));
+        state = ltb-false 5 (getD (fieldsAt s) 3 0) (x .1);
+      }
+
+  -- ---- the reader
+
+  pub held-open : noSession s ≡ false → IsRecord s × (isOpen (sessionIn s) ≡ true)
+  unfolding noSession
+  held-open h = let n = neither (noRecord s) (not (isOpen (sessionIn s))) h in (is-record (n .0), not-false (isOpen (sessionIn s)) (n .1))
+
+  pub read-inv : readSession s .0 ≡ Accepted → IsRecord s × (isOpen (sessionIn s) ≡ true)
   unfolding readSession
-  refused h = ap (λ (v : Verdict). answer v (sessionIn s)) (given _ _ _ tt h)
+  read-inv h = held-open (accepted _ _ _ h .0)
 
-  pub read-length : (length s ≡ 36 → ⊥) → readSession s ≡ Refused NoSession
-  unfolding noSession
-  read-length h = refused (rw (ne-eqb (length s) 36 h))
+  pub read-is : (b : Bool) → noSession s ≡ b → readSession s ≡ answer (firstOf ((b, NoSession) ∷ [])) (sessionIn s)
+  unfolding readSession
+  read-is b h = rw (in-order (readRules s) tt, h)
 
-  pub read-mark : notHeld (fieldsAt s) ≡ true → readSession s ≡ Refused NoSession
-  unfolding noSession
-  read-mark h = refused (simp (h, or-true))
+  -- ---- its consist
 
-  pub read-closed : isOpen (sessionIn s) ≡ false → readSession s ≡ Refused NoSession
-  unfolding noSession
-  read-closed h = refused (simp (h, or-true))
+  pub consist-accepted : consist.readConsist (consistAt s) .0 ≡ Accepted → consist.readConsist (consistAt s) .1 ≡ consist.consistIn (consistAt s)
+  unfolding consist.readConsist
+  consist-accepted h i = kept (h i) (consist.consistIn (consistAt s)) consist.none
 
-  pub read-accepted : length s ≡ 36 → notHeld (fieldsAt s) ≡ false → isOpen (sessionIn s) ≡ true → readSession s ≡ Accepted (sessionIn s)
-  unfolding readSession noSession
-  read-accepted l m h =
-      ap (λ (v : Verdict). answer v (sessionIn s)) (last-passed _ _ (rw (eq-eqb (length s) 36 l, m, h)))
-
--- bytes that an open session has
-pub record Has (s : List ℕ) (x : Session) : Type 0 where
-  pub size : length s ≡ 36
-  pub mark : notHeld (fieldsAt s) ≡ false
-  pub open-session : isOpen x ≡ true
-  pub stands : sessionIn s ≡ x
-
-answer-accepted : (v : Verdict) (x y : Session) → answer v x ≡ Accepted y → (v ≡ verdict.Accepted) × (x ≡ y)
-answer-accepted verdict.Accepted x y h = (refl, cc)
-answer-accepted (verdict.Refused r) x y h = absurd (let z : _≡_ {A = ℕ} 0 1 = cc in omega arith)
-
-pub read-inv : (s : List ℕ) (x : Session) → readSession s ≡ Accepted x → Has s x
-unfolding readSession noSession
-read-inv s x h =
-    let a = answer-accepted _ _ _ h in
-    let n = neither (not (eqb (length s) 36) || notHeld (fieldsAt s)) (not (isOpen (sessionIn s))) (accepted _ _ _ (a .0) .0) in
-    let m = neither (not (eqb (length s) 36)) (notHeld (fieldsAt s)) (n .0) in
-    record {
-      size = eqb-true (length s) 36 (not-false (eqb (length s) 36) (m .0));
-      mark = m .1;
-      open-session = ap isOpen (sym (a .1)) ∙ not-false (isOpen (sessionIn s)) (n .1);
-      stands = a .1;
-    }
+  -- where it is refused, no session is open
+  pub consist-refused : length s ≡ 40 → (r : Refusal) → consist.readConsist (consistAt s) .0 ≡ Refused r → isOpen (sessionIn s) ≡ false
+  unfolding sessionIn wrongLength
+  consist-refused l r h = not-eq-not {a = isOpen (sessionIn s)} {b = false} .0 (λ e.
+      let c = consist-sound.is-sound _ (opened (sessionIn s) e .tested) in
+      let n : length (consistAt s) ≡ 16 = simp (length-take, length-drop) (omega (arith, l)) in
+      absurd (let z : _≡_ {A = ℕ} 0 1 = cc (h, consist-answers.read-is (consistAt s) false false false (ap not (eq-eqb (length (consistAt s)) 16 n)) (c .0) (c .1)) in omega arith))
 
 -- ---- the writer
 
 module _ (x : Session) (out : List ℕ) where
-  wrote : {v w : Verdict} → v ≡ w → written v (bytesOf x) out ≡ written w (bytesOf x) out
-  wrote h = ap (λ (v : Verdict). written v (bytesOf x) out) h
-
-  pub write-closed : isOpen x ≡ false → writeSession x out ≡ (verdict.Refused NoSession, out)
+  pub write-is : (a b : Bool) → not (isOpen x) ≡ a → noRoom 40 out ≡ b → writeSession x out ≡ written (firstOf ((a, NoSession) ∷ (b, NoRoom) ∷ [])) (bytesOf x) out
   unfolding writeSession
-  write-closed h = wrote (given _ _ _ tt (ap not h))
+  write-is a b h i = rw (in-order (writeRules x out) tt, h, i)
 
-  pub write-room : isOpen x ≡ true → length out < 36 → writeSession x out ≡ (verdict.Refused NoRoom, out)
-  unfolding writeSession noRoom
-  write-room o h = wrote (passed _ _ _ (ap not o) ∙ given _ _ _ tt (lt-ltb (length out) 36 h))
+  pub write-accepted : isOpen x ≡ true → 40 ≤ length out → writeSession x out ≡ (Accepted, bytesOf x ++ drop 40 out)
+  unfolding noRoom bytesOf sealed consist.bytesOf
+  write-accepted o h = write-is false false (ap not o) (le-ltb (length out) 40 h)
 
-  pub write-accepted : isOpen x ≡ true → 36 ≤ length out → writeSession x out ≡ (verdict.Accepted, bytesOf x ++ drop 36 out)
-  unfolding writeSession noRoom bytesOf consist.bytesOf
-  write-accepted o h = wrote (passed _ _ _ (ap not o) ∙ last-passed _ _ (le-ltb (length out) 36 h))
-
-  pub write-inv : writeSession x out .0 ≡ verdict.Accepted → (isOpen x ≡ true) × (36 ≤ length out)
+  pub write-inv : writeSession x out .0 ≡ Accepted → (isOpen x ≡ true) × (40 ≤ length out)
   unfolding writeSession noRoom
   write-inv h =
       let o = accepted _ _ _ (written-accepted _ (bytesOf x) out h) in
-      (not-false (isOpen x) (o .0), ltb-false (length out) 36 (accepted _ _ _ (o .1) .0))
+      (not-false (isOpen x) (o .0), ltb-false (length out) 40 (accepted _ _ _ (o .1) .0))

@@ -1,14 +1,18 @@
 -- The figures of the session's record, computed. Assumes nothing.
 use mathlib.Core.Path.{refl}
+use Rattle.bits.specs.Places.{lies, fieldAt}
 use Rattle.refusal.specs.Lowest.{lowest}
+use Rattle.record.specs.Record.{wrongLength}
+use Rattle.seal.specs.Seal.{checkWord, sealed, isSealed}
 use Rattle.consist.specs.Consist as consist
+use Rattle.brake.specs.Brake.{isOpened}
 use Rattle.brake.specs.Sound as brake
 use Rattle.session.specs.Session.{isOpen}
-use Rattle.held.specs.Held.{sessionIn, bytesOf, notHeld, noSession, readSession}
+use Rattle.held.specs.Held.{sessionIn, bytesOf, noRecord, noSession, readSession}
 use Rattle.held.specs.Figures.{Figures}
 
 pub figures : Figures
-unfolding sessionIn bytesOf notHeld noSession readSession lowest isOpen consist.consistIn consist.bytesOf consist.inRange consist.tooLight consist.isSound brake.isSound
+unfolding lies fieldAt wrongLength checkWord sealed isSealed sessionIn bytesOf noRecord noSession readSession lowest isOpen isOpened consist.consistIn consist.bytesOf consist.inRange consist.tooLight consist.isSound brake.isSound
 figures = record {
   written = refl;
   read = refl;
@@ -16,6 +20,9 @@ figures = record {
   state-six = refl;
   state-seven = refl;
   a-above-set = refl;
+  a-below-set = refl;
+  a-cause = refl;
   a-ton-less = refl;
   a-byte-less = refl;
+  not-sealed = refl;
 }

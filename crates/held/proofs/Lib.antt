@@ -1,8 +1,7 @@
 -- Laws of the session's reader and writer.
-pub mod Open
-pub mod Words
 pub mod Answers
 pub mod RoundTrip
 pub mod Exactly
+pub mod Damage
 pub mod Figures
 pub mod Unique

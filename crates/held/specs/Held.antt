@@ -1,39 +1,62 @@
 -- "Held: state, set, hold (pipe pressure), A (average auxiliary reservoir), B (average cylinder), equalization, fall per second, last front, last rear, last time":
--- the record of an open session, 36 bytes, its reader and its writer. Definitions only.
+-- the record of an open session, 40 bytes, its reader and its writer. Definitions only.
 use Prim.Native.Nat.{ℕ}
 use mathlib.Core.List.{List, [], _∷_, _++_}
 use mathlib.Core.Bool.{Bool, true, not, _||_}
-use lib.ListN.{length, getD, take, drop}
+use lib.ListN.{getD, take, drop}
 use lib.Dec.{ltb, eqb}
 use Rattle.bits.specs.Fields.{bit}
-use Rattle.bits.specs.Bytes.{fieldsIn, bytesFrom}
+use Rattle.bits.specs.Bytes.{bytesFrom}
+use Rattle.bits.specs.Places.{fieldsFrom}
+use Rattle.refusal.specs.Number.{told}
 use Rattle.refusal.specs.Lowest.{Rule, lowest}
+use Rattle.refusal.specs.Steps.{kept}
 use Rattle.refusal.specs.Written.{noRoom, written}
+use Rattle.refusal.specs.declared.Refusal.{Refusal}
 use Rattle.refusal.specs.declared.Refusal.the-variants.{NoSession, NoRoom}
 use Rattle.refusal.specs.declared.Verdict.{Verdict}
-use Rattle.refusal.specs.declared.Verdict.the-variants as verdict
+use Rattle.refusal.specs.declared.Verdict.the-variants.{Refused}
+use Rattle.record.specs.Record.{wrongLength}
+use Rattle.seal.specs.Seal.{sealed, isSealed}
 use Rattle.consist.specs.declared.Consist.{Consist}
 use Rattle.consist.specs.Consist as consist
+use Rattle.brake.specs.declared.Brake.{Brake}
 use Rattle.brake.specs.declared.State.{State}
 use Rattle.brake.specs.declared.State.the-variants.{Charged, ApplyingService, HoldingService, ApplyingEmergency, HoldingEmergency, Charging}
 use Rattle.brake.specs.State.{stateNumber}
 use Rattle.session.specs.declared.Session.{Session}
-use Rattle.session.specs.Session.{isOpen}
-use Rattle.held.specs.declared.Answer.{Answer}
-use Rattle.held.specs.declared.Answer.the-variants.{Accepted, Refused}
+use Rattle.session.specs.Session.{Told, sessionTold, isOpen, noneOpen}
 
--- the letters B and S
+-- 40 bytes
+abbrev pub size : ℕ
+size = 40
+
+-- of which 20 are the record's own fields; then stand the consist's record, 16, and the check word of these 36
+abbrev pub own : ℕ
+own = 20
+
+-- the letters B and T
 abbrev pub mark : ℕ
-mark = 0x4253
+mark = 0x4254
 
--- mark, state, whether a sample was yet accepted, cause, last time, hold, A, B, equalization, fall, last front, last rear
+-- mark, cause, whether a sample was yet accepted, state, hold, A, B, equalization, fall, last front, last rear, last time
+abbrev pub frontOf : Session → List ℕ
+frontOf x = mark ∷ x .cause ∷ bit (x .brake .sampled) ∷ stateNumber (x .brake .state) ∷ x .brake .hold ∷ x .brake .a ∷ []
+
+abbrev pub backOf : Brake → List ℕ
+backOf k = k .b ∷ k .equalization ∷ k .fall ∷ k .«last_front» ∷ k .«last_rear» ∷ k .«last_time» ∷ []
+
 abbrev pub fieldsOf : Session → List ℕ
-fieldsOf x =
-    mark ∷ stateNumber (x .brake .state) ∷ bit (x .brake .sampled) ∷ x .cause ∷ x .brake .«last_time» ∷ x .brake .hold
-    ∷ x .brake .a ∷ x .brake .b ∷ x .brake .equalization ∷ x .brake .fall ∷ x .brake .«last_front» ∷ x .brake .«last_rear» ∷ []
+fieldsOf x = frontOf x ++ backOf (x .brake)
+
+abbrev pub frontWidths : List ℕ
+frontWidths = 16 ∷ 4 ∷ 1 ∷ 3 ∷ 16 ∷ 16 ∷ []
+
+abbrev pub backWidths : List ℕ
+backWidths = 16 ∷ 16 ∷ 16 ∷ 16 ∷ 16 ∷ 24 ∷ []
 
 abbrev pub widths : List ℕ
-widths = 16 ∷ 3 ∷ 1 ∷ 4 ∷ 24 ∷ 16 ∷ 16 ∷ 16 ∷ 16 ∷ 16 ∷ 16 ∷ 16 ∷ []
+widths = frontWidths ++ backWidths
 
 -- "States: 0 charged, 1 applying service, 2 holding service, 3 applying emergency, 4 holding emergency, 5 charging."
 abbrev pub stateOf : ℕ → State
@@ -45,53 +68,66 @@ ofFields fs c = record {
   opened = true;
   consist = c;
   brake = record {
-    state = stateOf (getD fs 1 0);
-    hold = getD fs 5 0;
-    a = getD fs 6 0;
-    b = getD fs 7 0;
-    equalization = getD fs 8 0;
-    fall = getD fs 9 0;
-    «last_front» = getD fs 10 0;
-    «last_rear» = getD fs 11 0;
-    «last_time» = getD fs 4 0;
+    state = stateOf (getD fs 3 0);
+    hold = getD fs 4 0;
+    a = getD fs 5 0;
+    b = getD fs 6 0;
+    equalization = getD fs 7 0;
+    fall = getD fs 8 0;
+    «last_front» = getD fs 9 0;
+    «last_rear» = getD fs 10 0;
+    «last_time» = getD fs 11 0;
     sampled = eqb (getD fs 2 0) 1;
   };
-  cause = getD fs 3 0;
+  cause = getD fs 1 0;
 }
 
--- the fields of a record: its first 20 bytes; the other 16 are the consist's record
+-- the fields that bytes begin with, and the consist's record behind them
 abbrev pub fieldsAt : List ℕ → List ℕ
-fieldsAt s = fieldsIn widths (take 20 s)
+fieldsAt s = fieldsFrom 0 widths s
+
+abbrev pub consistAt : List ℕ → List ℕ
+consistAt s = take consist.size (drop own s)
 
 -- the session that bytes stand for, and the bytes of a session
 unfoldable pub sessionIn : List ℕ → Session
-sessionIn s = ofFields (fieldsAt s) (consist.consistIn (drop 20 s))
+sessionIn s = ofFields (fieldsAt s) (consist.consistIn (consistAt s))
 
 unfoldable pub bytesOf : Session → List ℕ
-bytesOf x = bytesFrom 20 widths (fieldsOf x) ++ consist.bytesOf (x .consist)
+bytesOf x = sealed (bytesFrom own widths (fieldsOf x) ++ consist.bytesOf (x .consist))
 
--- another mark, or a state of 6 or 7, of the fields that are read
-unfoldable pub notHeld : List ℕ → Bool
-notHeld fs = not (eqb (getD fs 0 0) mark) || ltb 5 (getD fs 1 0)
+-- not 40 bytes, not sealed, another mark, or a state above 5
+unfoldable pub noRecord : List ℕ → Bool
+noRecord s =
+    wrongLength size s
+    || not (isSealed s)
+    || not (eqb (getD (fieldsAt s) 0 0) mark)
+    || ltb 5 (getD (fieldsAt s) 3 0)
 
 -- 1: bytes that no open session has; one whose consist is refused is not open
 unfoldable pub noSession : List ℕ → Bool
-noSession s = not (eqb (length s) 36) || notHeld (fieldsAt s) || not (isOpen (sessionIn s))
+noSession s = noRecord s || not (isOpen (sessionIn s))
 
--- the paper's number and values: the refusal, or the session
-abbrev pub answer : Verdict → Session → Answer
-answer verdict.Accepted x = Accepted x
-answer (verdict.Refused r) x = Refused r
+-- the refusal, with the value before any opening, or the session
+abbrev pub answer : Verdict → Session → Verdict × Session
+answer v x = (v, kept v x noneOpen)
+
+abbrev pub refusedWith : Refusal → Verdict × Session
+refusedWith r = answer (Refused r) noneOpen
+
+-- the paper's number and values
+abbrev pub readTold : Verdict × Session → ℕ × Told
+readTold a = told (a .0, sessionTold (a .1))
 
 abbrev pub readRules : List ℕ → List Rule
 readRules s = (noSession s, NoSession) ∷ []
 
-unfoldable pub readSession : List ℕ → Answer
+unfoldable pub readSession : List ℕ → Verdict × Session
 readSession s = answer (lowest (readRules s)) (sessionIn s)
 
 -- "Writers refuse what the reader would, with its number, touching nothing, and never touch bytes past the record."
 abbrev pub writeRules : Session → List ℕ → List Rule
-writeRules x out = (not (isOpen x), NoSession) ∷ (noRoom 36 out, NoRoom) ∷ []
+writeRules x out = (not (isOpen x), NoSession) ∷ (noRoom size out, NoRoom) ∷ []
 
 unfoldable pub writeSession : Session → List ℕ → Verdict × List ℕ
 writeSession x out = written (lowest (writeRules x out)) (bytesOf x) out

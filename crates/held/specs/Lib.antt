@@ -1,6 +1,6 @@
 -- The session's record.
 pub mod Held
-pub mod Steps
 pub mod RoundTrip
 pub mod Exactly
+pub mod Damage
 pub mod Figures

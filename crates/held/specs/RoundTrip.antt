@@ -5,19 +5,18 @@ use Prim.Native.Nat.{ℕ, _≤_}
 use mathlib.Core.List.{List, _++_}
 use lib.ListN.{length, take, drop}
 use Rattle.bits.specs.Bytes.{Bytes}
-use Rattle.refusal.specs.declared.Verdict.the-variants as verdict
+use Rattle.refusal.specs.declared.Verdict.the-variants.{Accepted}
 use Rattle.session.specs.declared.Session.{Session}
 use Rattle.session.specs.Session.{isOpen}
-use Rattle.held.specs.declared.Answer.the-variants.{Accepted}
-use Rattle.held.specs.Held.{bytesOf, readSession, writeSession}
+use Rattle.held.specs.Held.{size, bytesOf, answer, readSession, writeSession}
 
 unfoldable pub WrittenReadsBack : Type 0
 WrittenReadsBack =
-    (x : Session) (out : List ℕ) → writeSession x out .0 ≡ verdict.Accepted → readSession (take 36 (writeSession x out .1)) ≡ Accepted x
+    (x : Session) (out : List ℕ) → writeSession x out .0 ≡ Accepted → readSession (take size (writeSession x out .1)) ≡ answer Accepted x
 
 unfoldable pub AcceptedWritesBack : Type 0
 AcceptedWritesBack =
-    (s out : List ℕ) (x : Session) → Bytes s → 36 ≤ length out → readSession s ≡ Accepted x → writeSession x out ≡ (verdict.Accepted, s ++ drop 36 out)
+    (s out : List ℕ) → Bytes s → size ≤ length out → readSession s .0 ≡ Accepted → writeSession (readSession s .1) out ≡ (Accepted, s ++ drop size out)
 
 -- the bytes tell open sessions apart
 unfoldable pub BytesTell : Type 0

@@ -1,8 +1,9 @@
-// The record of an open session, 36 bytes, for a customer who keeps the session in bytes from call to call and across a restart.
+// The record of an open session, 40 bytes, for a customer who keeps the session in bytes from call to call and across a restart.
 use brake::Brake;
 use brake::State;
 use consist::Consist;
 use refusal::Refusal;
+use refusal::Step;
 use refusal::Verdict;
 use session::Session;
 ghost use mathlib.Core.Path.{_≡_};
@@ -10,17 +11,36 @@ ghost use mathlib.Core.Bool.{true};
 ghost use mathlib.Core.List.{_++_};
 ghost use Prim.Native.Nat.{_≤_};
 ghost use lib.ListN.{length, drop};
-ghost use Rattle.bits.specs.Fields.{split};
+ghost use Rattle.bits.specs.Places.{putFrom};
+ghost use Rattle.refusal.specs.Number.{told};
+ghost use Rattle.refusal.specs.declared.Refusal.the-variants.{NoSession};
 ghost use Rattle.session.specs.Session.{isOpen};
-ghost use Rattle.held.specs.Held.{stateOf, ofFields, bytesOf, notHeld, readSession, writeSession};
-ghost use Rattle.held.specs.Steps.{firstWidths, fieldsFrom, firstWord, secondWord, thirdWord};
+ghost use Rattle.held.specs.Held.{size, frontWidths, backWidths, frontOf, backOf, stateOf, ofFields, fieldsAt, bytesOf, noRecord, refusedWith, readTold, readSession, writeSession};
 
-const MARK: u64 = 0x4253;
+// Bytes of the record.
+pub const SIZE: usize = 40;
 
-// What reading a session answers.
-pub enum Answer {
-    Accepted(Session),
-    Refused(Refusal),
+// Bytes of its own fields; the consist's record stands behind them, and the check word of both at the end.
+const OWN: usize = 20;
+
+const BODY: usize = OWN + Consist::SIZE;
+
+const MARK: u64 = 0x4254;
+
+// What reading a session answers; where it is refused, the session is the one before any opening.
+pub struct Answer {
+    pub verdict: Verdict,
+    pub session: Session,
+}
+
+fn refused() -> Answer
+    ensures { λ a. ⌜ readTold (a .verdict, a .session) ≡ readTold (refusedWith NoSession) ⌝ }
+{
+    let session = session::none();
+    Answer {
+        verdict: Verdict::Refused(Refusal::NoSession),
+        session,
+    }
 }
 
 // The state of a number: past 4, charging.
@@ -37,121 +57,123 @@ fn state_of(n: u64) -> State
     }
 }
 
-// Another mark in the first word, or a state of 6 or 7.
-fn not_held(first: u64) -> bool
-    ensures { λ r. ⌜ r ≡ notHeld (split firstWidths first) ⌝ }
+// Not 40 bytes, not sealed, another mark, or a state above 5.
+fn no_record(s: &[u8]) -> bool
+    ensures { λ r. ⌜ r ≡ noRecord (now (s .entry)) ⌝ }
 {
-    (first / 0x1_0000_0000_0000 % 0x1_0000 != MARK) | (first / 0x2000_0000_0000 % 8 > 5)
+    let is_sealed = seal::is_sealed(s);
+    (s.len() != SIZE) | !is_sealed | (bits::field(s, 0, 16) != MARK) | (bits::field(s, 21, 3) > 5)
 }
 
-// The session of the bits of three words and a consist, whatever the mark.
-fn of_words(first: u64, second: u64, third: u64, c: Consist) -> Session
-    ensures { λ r. ⌜ r ≡ ofFields (fieldsFrom first second third) c ⌝ }
+// The open session of a record's own fields and a consist, whatever the mark.
+fn of_bytes(s: &[u8], c: Consist) -> Session
+    ensures { λ r. ⌜ r ≡ ofFields (fieldsAt (now (s .entry))) c ⌝ }
 {
-    let state = state_of(first / 0x2000_0000_0000 % 8);
+    let cause = bits::field(s, 16, 4) as u8;
+    let sampled = bits::field(s, 20, 1) == 1;
+    let state = state_of(bits::field(s, 21, 3));
     let brake = Brake {
         state,
-        hold: (first % 0x1_0000) as u16,
-        a: (second / 0x1_0000_0000_0000 % 0x1_0000) as u16,
-        b: (second / 0x1_0000_0000 % 0x1_0000) as u16,
-        equalization: (second / 0x1_0000 % 0x1_0000) as u16,
-        fall: (second % 0x1_0000) as u16,
-        last_front: (third / 0x1_0000 % 0x1_0000) as u16,
-        last_rear: (third % 0x1_0000) as u16,
-        last_time: (first / 0x1_0000 % 0x100_0000) as u32,
-        sampled: first / 0x1000_0000_0000 % 2 == 1,
+        hold: bits::field(s, 24, 16) as u16,
+        a: bits::field(s, 40, 16) as u16,
+        b: bits::field(s, 56, 16) as u16,
+        equalization: bits::field(s, 72, 16) as u16,
+        fall: bits::field(s, 88, 16) as u16,
+        last_front: bits::field(s, 104, 16) as u16,
+        last_rear: bits::field(s, 120, 16) as u16,
+        last_time: bits::field(s, 136, 24) as u32,
+        sampled,
     };
     Session {
         opened: true,
         consist: c,
         brake,
-        cause: (first / 0x100_0000_0000 % 0x10) as u8,
+        cause,
     }
 }
 
 pub fn read(s: &[u8]) -> Answer
-    ensures { λ r. ⌜ r ≡ readSession (now (s .entry)) ⌝ }
+    ensures { λ r. ⌜ readTold (r .verdict, r .session) ≡ readTold (readSession (now (s .entry))) ⌝ }
 {
-    if s.len() != 36 {
-        return Answer::Refused(Refusal::NoSession);
-    }
-    let first = bits::word(&s[0..8]);
-    if not_held(first) {
-        return Answer::Refused(Refusal::NoSession);
-    }
-    let consist::Answer::Accepted(c) = consist::read(&s[20..36]) else {
-        return Answer::Refused(Refusal::NoSession);
+    let Step::On = refusal::unless(no_record(s)) else {
+        return refused();
     };
-    let second = bits::word(&s[8..16]);
-    let third = bits::word(&s[16..20]);
-    let x = of_words(first, second, third, c);
-    if !session::is_open(x) {
-        return Answer::Refused(Refusal::NoSession);
+    let found = consist::read(&s[OWN..BODY]);
+    let verdict = found.verdict;
+    let Verdict::Accepted = verdict else {
+        return refused();
+    };
+    let c = found.consist;
+    let x = of_bytes(s, c);
+    let Step::On = refusal::unless(!session::is_open(x)) else {
+        return refused();
+    };
+    Answer {
+        verdict: Verdict::Accepted,
+        session: x,
     }
-    Answer::Accepted(x)
 }
 
-// Mark, state, whether a sample was yet accepted, cause, last time and hold.
-fn first_word(x: Session) -> u64
-    requires { ⌜ isOpen x ≡ true ⌝ }
-    ensures { λ r. ⌜ r ≡ firstWord x ⌝ }
+// Mark, cause, whether a sample was yet accepted, state, hold and A.
+fn put_front(x: Session, out: &mut [u8])
+    ensures { λ _. ⌜ now (out .exit) ≡ putFrom 0 frontWidths (frontOf x) (now (out .entry)) ⌝ }
 {
     let k = x.brake;
     let state = k.state;
     let number = brake::state_number(state);
-    MARK * 0x1_0000_0000_0000
-        + number as u64 * 0x2000_0000_0000
-        + k.sampled as u64 * 0x1000_0000_0000
-        + x.cause as u64 * 0x100_0000_0000
-        + k.last_time as u64 * 0x1_0000
-        + k.hold as u64
+    let widths = [16, 4, 1, 3, 16, 16];
+    let values = [
+        MARK,
+        x.cause as u64,
+        k.sampled as u64,
+        number as u64,
+        k.hold as u64,
+        k.a as u64,
+    ];
+    bits::put_fields(out, 0, &widths, &values);
 }
 
-// A, B, equalization and fall.
-fn second_word(k: Brake) -> u64
-    ensures { λ r. ⌜ r ≡ secondWord k ⌝ }
+// B, equalization, fall, last front, last rear and last time.
+fn put_back(k: Brake, out: &mut [u8])
+    ensures { λ _. ⌜ now (out .exit) ≡ putFrom 56 backWidths (backOf k) (now (out .entry)) ⌝ }
 {
-    k.a as u64 * 0x1_0000_0000_0000
-        + k.b as u64 * 0x1_0000_0000
-        + k.equalization as u64 * 0x1_0000
-        + k.fall as u64
+    let widths = [16, 16, 16, 16, 16, 24];
+    let values = [
+        k.b as u64,
+        k.equalization as u64,
+        k.fall as u64,
+        k.last_front as u64,
+        k.last_rear as u64,
+        k.last_time as u64,
+    ];
+    bits::put_fields(out, 56, &widths, &values);
 }
 
-// Last front and last rear.
-fn third_word(k: Brake) -> u64
-    ensures { λ r. ⌜ r ≡ thirdWord k ⌝ }
-{
-    k.last_front as u64 * 0x1_0000 + k.last_rear as u64
-}
-
-// Puts the record over the first 36 bytes of `out`.
+// Puts the record over the first 40 bytes of `out`.
 fn put(x: Session, out: &mut [u8])
     requires opened { ⌜ isOpen x ≡ true ⌝ }
-    requires room { ⌜ 36 ≤ length (now out) ⌝ }
-    ensures { λ _. ⌜ now (out .exit) ≡ bytesOf x ++ drop 36 (now (out .entry)) ⌝ }
+    requires room { ⌜ size ≤ length (now out) ⌝ }
+    ensures { λ _. ⌜ now (out .exit) ≡ bytesOf x ++ drop size (now (out .entry)) ⌝ }
 {
     let c = x.consist;
     let k = x.brake;
-    let first = first_word(x);
-    let second = second_word(k);
-    let third = third_word(k);
-    bits::put_word(&mut out[0..8], first);
-    bits::put_word(&mut out[8..16], second);
-    bits::put_word(&mut out[16..20], third);
+    put_front(x, out);
+    put_back(k, out);
     // not refused: an open session's consist is sound
-    consist::write(c, &mut out[20..36]);
+    consist::write(c, &mut out[OWN..BODY]);
+    seal::put_check_word(&mut out[0..SIZE]);
 }
 
-// Writes the record to the first 36 bytes of `out`.
+// Writes the record to the first 40 bytes of `out`.
 pub fn write(x: Session, out: &mut [u8]) -> Verdict
-    ensures { λ r. ⌜ (r, now (out .exit)) ≡ writeSession x (now (out .entry)) ⌝ }
+    ensures { λ r. ⌜ told (r, now (out .exit)) ≡ told (writeSession x (now (out .entry))) ⌝ }
 {
-    if !session::is_open(x) {
+    let Step::On = refusal::unless(!session::is_open(x)) else {
         return Verdict::Refused(Refusal::NoSession);
-    }
-    if out.len() < 36 {
+    };
+    let Step::On = refusal::unless(out.len() < SIZE) else {
         return Verdict::Refused(Refusal::NoRoom);
-    }
+    };
     put(x, out);
     Verdict::Accepted
 }

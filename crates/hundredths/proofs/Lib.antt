@@ -3,5 +3,6 @@ pub mod Judge
 pub mod Rounded
 pub mod Accepted
 pub mod Value
+pub mod Told
 pub mod Figures
 pub mod Unique

@@ -1,6 +1,7 @@
 -- What a reading is in hundredths, and when it is refused: a quotation is document 01's, over the definition that says it. Definitions only. Assumes nothing.
 use Prim.Native.Nat.{ℕ, _+_, _-_, _*_, _/_}
 use mathlib.Core.Bool.{Bool, true, false, _&&_, _||_}
+use mathlib.Core.List.{List, [], _∷_}
 use lib.Dec.{ltb}
 use lib.Ieee.{Float, nan, inf, fin, up, down, isNan}
 use Rattle.hundredths.specs.declared.Reading.{Reading}
@@ -70,3 +71,8 @@ speedOf x = judged (isBad mostSpeed x) (hundredthsOf Up x)
 -- "pressure 100 times its exact value rounded down"
 unfoldable pub pressureOf : Float → Reading
 pressureOf x = judged (isBad mostPressure x) (hundredthsOf Down x)
+
+-- the paper's number and values of a reading: 0 and its hundredths, or the 8 that it is refused with
+abbrev pub readingTold : Reading → ℕ × List ℕ
+readingTold (Hundredths n) = (0, n ∷ [])
+readingTold Refused = (8, [])

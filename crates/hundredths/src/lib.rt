@@ -4,7 +4,7 @@ ghost use mathlib.Core.Bool.{false};
 ghost use Prim.Native.Nat.{_/_, _^_};
 ghost use lib.Ieee.{binary32, ofBits, toBits};
 ghost use Rattle.hundredths.specs.Exact.{Exact};
-ghost use Rattle.hundredths.specs.Reading.{rounded, hundredthsOf, isBad, mostPressure, speedOf, pressureOf};
+ghost use Rattle.hundredths.specs.Reading.{rounded, hundredthsOf, isBad, mostPressure, speedOf, pressureOf, readingTold};
 
 const MOST_SPEED: f32 = 100.0;
 
@@ -57,7 +57,7 @@ pub fn bits_of(x: f32) -> u32
 }
 
 pub fn speed(x: f32) -> Reading
-    ensures { λ r. ⌜ r ≡ speedOf x ⌝ }
+    ensures { λ r. ⌜ readingTold r ≡ readingTold (speedOf x) ⌝ }
 {
     if (x >= 0.0) & (x <= MOST_SPEED) {
         Reading::Hundredths(hundredths(x, Rounding::Up))
@@ -67,7 +67,7 @@ pub fn speed(x: f32) -> Reading
 }
 
 pub fn pressure(x: f32) -> Reading
-    ensures { λ r. ⌜ r ≡ pressureOf x ⌝ }
+    ensures { λ r. ⌜ readingTold r ≡ readingTold (pressureOf x) ⌝ }
 {
     if (x >= 0.0) & (x <= MOST_PRESSURE) {
         Reading::Hundredths(hundredths(x, Rounding::Down))

@@ -5,6 +5,7 @@ use mathlib.Core.List.{List}
 use Prim.Native.Nat.{ℕ, zero, suc, _+_, _≤_, _<_, min}
 use native.Mathlib.Nat.{le-trans}
 use native.Mathlib.Omega.{arith}
+use Rattle.targets.specs.Targets.{most}
 use Rattle.judge.specs.Judge.{firstFrom, causeOf}
 
 -- where k is the first, and where it is not; b says which, as a test does
@@ -26,9 +27,9 @@ first-most f k (suc n) = go (f k) (first-most f (suc k) n)
     go true h = omega arith
     go false h = omega arith
 
-pub cause-most : (offset head v count : ℕ) (targets speeds places : List ℕ) → causeOf offset head v count targets speeds places ≤ 8
+pub cause-most : (offset head v count : ℕ) (targets speeds places : List ℕ) → causeOf offset head v count targets speeds places ≤ most
 unfolding causeOf
-cause-most offset head v count targets speeds places = le-trans (first-most _ 0 (min count 8)) (omega arith)
+cause-most offset head v count targets speeds places = le-trans (first-most _ 0 (min count most)) (omega arith)
 
 pub first-some : (f g : ℕ → Bool) → ((k : ℕ) → f k ≡ true → g k ≡ true) → (k n : ℕ) → 0 < firstFrom f k n → 0 < firstFrom g k n
 unfolding firstFrom

@@ -8,6 +8,7 @@ use native.Mathlib.Omega.{arith}
 use lib.Dec.{ltb}
 use lib.ListN.{getD}
 use borrow.Author.Tests.{ltb-true, lt-ltb}
+use Rattle.targets.specs.Targets.{most}
 use Rattle.consist.specs.Sound.{Sound}
 use Rattle.walk.specs.Walk.{placeFor, locationOf, predictOf}
 use Rattle.walk.specs.Step.{Ground, groundOf}
@@ -70,7 +71,7 @@ module _ (one other : Approach) (s : Sound (one .consist)) (s′ : Sound (other 
       called-grows (other .consist .offset) (one .consist .offset) (other .head) (one .head) (other .speed) (one .speed) (getD targets k 0)
       (getD speeds k 0) _ _ (w .offset) (w .head) (w .speed)
       (map-grows (λ u. locationOf (placeOf other u)) (λ u. locationOf (placeOf one u)) farther speeds k))
-      0 (min count 8)
+      0 (min count most)
 
 pub demand-3 : Demand-3
 unfolding Demand-3 placeOf predictionOf predictOf

@@ -5,6 +5,7 @@ use Prim.Native.Nat.{ℕ, zero, suc, _+_, _-_, _*_, min}
 use lib.Dec.{leb, ltb}
 use lib.ListN.{getD}
 use Rattle.whole.specs.Ceiling.{ceilDiv}
+use Rattle.targets.specs.Targets.{most}
 
 -- "A target is judged if it lies from head to head plus 32,768, both included."
 unfoldable pub isJudged : (head target : ℕ) → Bool
@@ -29,4 +30,4 @@ firstFrom f k (suc n) = let rest = firstFrom f (suc k) n in cond (f k) (suc k) r
 
 -- "The cause is the first such target": "0, or 1 to 8 for the target's place in the list", judged or not
 unfoldable pub causeOf : (offset head v count : ℕ) (targets speeds places : List ℕ) → ℕ
-causeOf offset head v count targets speeds places = firstFrom (calls offset head v targets speeds places) 0 (min count 8)
+causeOf offset head v count targets speeds places = firstFrom (calls offset head v targets speeds places) 0 (min count most)

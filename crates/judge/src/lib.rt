@@ -1,4 +1,5 @@
 // The judgement of targets: the offset, which are judged, the call for the penalty and its cause.
+use targets::Target;
 ghost use mathlib.Core.Path.{_≡_};
 ghost use Rattle.judge.specs.Judge.{offsetFor, isCalled, causeOf};
 
@@ -22,20 +23,24 @@ fn is_called(offset: u16, head: u32, v: u16, target: u32, u: u16, place: u32) ->
     (head <= target) & (target as u64 <= head as u64 + 32_768) & ((target as u64) < past)
 }
 
-// The first of `count` targets, 8 at most, for which the penalty is called, counted from 1; 0 for none.
+// The first target for which the penalty is called, of `count` or as many as there may be, counted from 1; 0 for none.
 // `places` has the location for the speed of each.
 pub fn cause(
     offset: u16,
     head: u32,
     speed: u16,
     count: usize,
-    locations: [u32; 8],
-    speeds: [u16; 8],
-    places: [u32; 8],
+    locations: [u32; Target::MOST],
+    speeds: [u16; Target::MOST],
+    places: [u32; Target::MOST],
 ) -> u8
     ensures { λ r. ⌜ r ≡ causeOf offset head speed count locations speeds places ⌝ }
 {
-    let n: usize = if count < 8 { count } else { 8 };
+    let n: usize = if count < Target::MOST {
+        count
+    } else {
+        Target::MOST
+    };
     for k in 0..n {
         if is_called(offset, head, speed, locations[k], speeds[k], places[k]) {
             return k as u8 + 1;

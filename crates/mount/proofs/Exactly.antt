@@ -5,7 +5,7 @@ use Prim.Native.Nat.{ℕ, _*_}
 use lib.ListN.{length, drop}
 use lib.Seq.{drop-at}
 use Rattle.refusal.specs.Lowest.{Rule, lowest}
-use Rattle.refusal.specs.Number.{numberOfVerdict}
+use Rattle.refusal.specs.Number.{numberOfVerdict, told}
 use Rattle.refusal.specs.Written.{written}
 use Rattle.refusal.specs.Exactly.{Exactly}
 use Rattle.refusal.specs.declared.Verdict.{Verdict}
@@ -14,13 +14,12 @@ use Rattle.refusal.proofs.Exactly.{exactly, written-verdict}
 use Rattle.refusal.proofs.Numbers.{verdict-refused, verdict-accepted}
 use Rattle.consist.specs.Consist as consist
 use Rattle.profile.specs.Profile as profile
-use Rattle.profile.proofs.Answers as profile-answers
+use Rattle.table.proofs.Writing.{length-bytes-of}
+use Rattle.table.specs.Table as table
 use Rattle.targets.specs.Targets as targets
-use Rattle.targets.proofs.Answers as targets-answers
 use Rattle.sample.specs.Sample as sample
 use Rattle.decision.specs.Decision.{decisionIn}
-use Rattle.mount.specs.Told.{told}
-use Rattle.mount.specs.Records.{consistWritten, consistJudged, profileWritten, profileJudged, targetsWritten, targetsJudged, sampleWriteRules, sampleWritten, sampleJudged, numbersOf, decisionRules, decisionRead}
+use Rattle.mount.specs.Records.{consistWritten, consistJudged, profileWritten, profileJudged, targetsWritten, targetsJudged, sampleWriteRules, sampleWritten, sampleJudged, decisionNumbers, numbersOf, decisionRules, decisionRead}
 use Rattle.mount.specs.Exactly.{Tells, ToldExactly, RecordsExactly}
 
 pub tells : (rules : List Rule) → Tells rules (numberOfVerdict (lowest rules))
@@ -47,19 +46,19 @@ told-exactly n rules bytes out h =
     }
 
 pub records-exactly : RecordsExactly
-unfolding consistWritten consistJudged profileWritten profileJudged targetsWritten targetsJudged sampleWritten sampleJudged decisionRead consist.writeConsist consist.bytesOf profile.writeProfile targets.writeTargets sample.bytesOf
+unfolding consistWritten consistJudged profileWritten profileJudged targetsWritten targetsJudged sampleWritten sampleJudged decisionRead consist.writeConsist consist.bytesOf table.write sample.bytesOf
 records-exactly = record {
-  consist-written = λ fields out. let c = consist.ofFields fields in told-exactly 16 (consist.writeRules c out) (consist.bytesOf c) out refl;
+  consist-written = λ fields out. let c = consist.ofFields fields in told-exactly consist.size (consist.writeRules c out) (consist.bytesOf c) out refl;
   consist-judged = λ s. tells (consist.readRules s);
   profile-written = λ starts grades curvatures out.
       let f = profile.segmentOf starts grades curvatures in
-      told-exactly (profile.size * length starts) (profile.writeRules starts grades curvatures out) (profile.bytesOf (length starts) f) out (profile-answers.length-bytes-of (length starts) f);
+      told-exactly (profile.size * length starts) (profile.writeRules starts grades curvatures out) (profile.bytesOf (length starts) f) out (length-bytes-of profile.segments f (length starts));
   profile-judged = λ p. tells (profile.judgeRules p);
   targets-written = λ locations speeds out.
       let f = targets.targetOf locations speeds in
-      told-exactly (targets.size * length locations) (targets.writeRules locations speeds out) (targets.bytesOf (length locations) f) out (targets-answers.length-bytes-of (length locations) f);
+      told-exactly (targets.size * length locations) (targets.writeRules locations speeds out) (targets.bytesOf (length locations) f) out (length-bytes-of targets.targets f (length locations));
   targets-judged = λ t. tells (targets.judgeRules t);
-  sample-written = λ fields out. told-exactly 20 (sampleWriteRules fields out) (sample.bytesOf (sample.ofFields fields)) out refl;
+  sample-written = λ fields out. told-exactly sample.size (sampleWriteRules fields out) (sample.bytesOf (sample.ofFields fields)) out refl;
   sample-judged = λ s. tells (sample.readRules s);
-  decision-read = λ s numbers. told-exactly 5 (decisionRules s numbers) (numbersOf (decisionIn s)) numbers refl;
+  decision-read = λ s numbers. told-exactly decisionNumbers (decisionRules s numbers) (numbersOf (decisionIn s)) numbers refl;
 }

@@ -14,7 +14,7 @@ use Rattle.consist.specs.Consist as consist
 use Rattle.profile.specs.Profile as profile
 use Rattle.targets.specs.Targets as targets
 use Rattle.sample.specs.Sample as sample
-use Rattle.mount.specs.Records.{consistWritten, consistJudged, profileWritten, profileJudged, targetsWritten, targetsJudged, sampleWriteRules, sampleWritten, sampleJudged, decisionRules, decisionRead}
+use Rattle.mount.specs.Records.{consistWritten, consistJudged, profileWritten, profileJudged, targetsWritten, targetsJudged, sampleWriteRules, sampleWritten, sampleJudged, decisionNumbers, decisionRules, decisionRead}
 
 -- of several that apply the lowest number is told, and 0 exactly where none applies
 pub record Tells (rules : List Rule) (number : ℕ) : Type 0 where
@@ -28,7 +28,7 @@ pub record ToldExactly (rules : List Rule) (n : ℕ) (out : List ℕ) (answer : 
   pub past : drop n (answer .1) ≡ drop n out
 
 pub record RecordsExactly : Type 0 where
-  pub consist-written : (fields out : List ℕ) → ToldExactly (consist.writeRules (consist.ofFields fields) out) 16 out (consistWritten fields out)
+  pub consist-written : (fields out : List ℕ) → ToldExactly (consist.writeRules (consist.ofFields fields) out) consist.size out (consistWritten fields out)
   pub consist-judged : (s : List ℕ) → Tells (consist.readRules s) (consistJudged s)
   pub profile-written : (starts : List ℕ) (grades : List ℤ) (curvatures out : List ℕ)
       → ToldExactly (profile.writeRules starts grades curvatures out) (profile.size * length starts) out (profileWritten starts grades curvatures out)
@@ -36,6 +36,6 @@ pub record RecordsExactly : Type 0 where
   pub targets-written : (locations speeds out : List ℕ)
       → ToldExactly (targets.writeRules locations speeds out) (targets.size * length locations) out (targetsWritten locations speeds out)
   pub targets-judged : (t : List ℕ) → Tells (targets.judgeRules t) (targetsJudged t)
-  pub sample-written : (fields out : List ℕ) → ToldExactly (sampleWriteRules fields out) 20 out (sampleWritten fields out)
+  pub sample-written : (fields out : List ℕ) → ToldExactly (sampleWriteRules fields out) sample.size out (sampleWritten fields out)
   pub sample-judged : (s : List ℕ) → Tells (sample.readRules s) (sampleJudged s)
-  pub decision-read : (s numbers : List ℕ) → ToldExactly (decisionRules s numbers) 5 numbers (decisionRead s numbers)
+  pub decision-read : (s numbers : List ℕ) → ToldExactly (decisionRules s numbers) decisionNumbers numbers (decisionRead s numbers)

@@ -1,5 +1,4 @@
 -- The calls for C.
-pub mod Told
 pub mod Mount
 pub mod Records
 pub mod Exactly

@@ -1,23 +1,29 @@
--- A session in lent bytes: the record of 36 bytes that crate `held` defines. Opening, a sample call, and whether the bytes are an open session's. Definitions only.
+-- A session in lent bytes: its record, which crate `held` defines, at their front. Opening, a sample call, and whether an open session's record
+-- stands there. Definitions only.
 use mathlib.Core.Bool.{Bool, not}
 use mathlib.Core.List.{List, [], _∷_, _++_}
 use Prim.Native.Nat.{ℕ}
+use lib.ListN.{take}
 use Rattle.refusal.specs.Lowest.{Rule, lowest}
-use Rattle.refusal.specs.Number.{numberOf, numberOfVerdict}
+use Rattle.refusal.specs.Number.{numberOf, numberOfVerdict, told}
 use Rattle.refusal.specs.Written.{noRoom, written}
 use Rattle.refusal.specs.declared.Refusal.the-variants.{NoRoom}
+use Rattle.refusal.specs.declared.Verdict.{Verdict}
+use Rattle.refusal.specs.declared.Verdict.the-variants.{Accepted, Refused}
 use Rattle.consist.specs.Consist.{consistIn, readRules}
+use Rattle.session.specs.declared.Session.{Session}
 use Rattle.session.specs.declared.Answer.{Answer}
 use Rattle.session.specs.Open.{openedWith}
 use Rattle.session.specs.Sample.{sampleCall}
-use Rattle.held.specs.declared.Answer.{Answer as Held}
-use Rattle.held.specs.declared.Answer.the-variants as held
-use Rattle.held.specs.Held.{bytesOf, noSession, readSession}
-use Rattle.mount.specs.Told.{told}
+use Rattle.held.specs.Held.{size, bytesOf, noSession, readSession}
+
+-- the bytes of a record, or all where there are fewer; no call reads or writes one past them
+abbrev pub front : List ℕ → List ℕ
+front session = take size session
 
 -- "Opening uses 2, 4 and 5"; then 12, for a writer, under what it writes
 abbrev pub openRules : (consist session : List ℕ) → List Rule
-openRules consist session = readRules consist ++ (noRoom 36 session, NoRoom) ∷ []
+openRules consist session = readRules consist ++ (noRoom size session, NoRoom) ∷ []
 
 -- the new session's record; "if refused, an earlier session stays as it was"
 unfoldable pub openBytes : (consist session : List ℕ) → ℕ × List ℕ
@@ -32,14 +38,15 @@ abbrev pub callBytes : Answer × List ℕ → List ℕ → Sampled
 callBytes answer session =
     (numberOfVerdict (answer .0 .verdict), written (answer .0 .verdict) (bytesOf (answer .0 .session)) session .1, answer .1)
 
--- 1: "a sample is offered and no session is open"
-abbrev pub sampledBy : Held → (session sample profile targets decision : List ℕ) → Sampled
-sampledBy (held.Accepted x) session sample profile targets decision = callBytes (sampleCall x sample profile targets decision) session
-sampledBy (held.Refused r) session sample profile targets decision = (numberOf r, session, decision)
+-- 1: "a sample is offered and no session is open"; of what the record is read as
+abbrev pub sampledBy : Verdict → Session → (session sample profile targets decision : List ℕ) → Sampled
+sampledBy Accepted x session sample profile targets decision = callBytes (sampleCall x sample profile targets decision) session
+sampledBy (Refused r) x session sample profile targets decision = (numberOf r, session, decision)
 
 unfoldable pub sampleBytes : (session sample profile targets decision : List ℕ) → Sampled
-sampleBytes session sample profile targets decision = sampledBy (readSession session) session sample profile targets decision
+sampleBytes session sample profile targets decision =
+    sampledBy (readSession (front session) .0) (readSession (front session) .1) session sample profile targets decision
 
--- whether the bytes are an open session's
+-- whether an open session's record stands at the front
 unfoldable pub isOpenBytes : List ℕ → Bool
-isOpenBytes session = not (noSession session)
+isOpenBytes session = not (noSession (front session))

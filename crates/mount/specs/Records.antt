@@ -1,11 +1,12 @@
 -- "reading and writing of records", for C: numbers and lent slices alone. Definitions only.
-use mathlib.Core.Bool.{Bool}
+use mathlib.Core.Bool.{not}
 use mathlib.Core.List.{List, [], _∷_, _++_}
 use Prim.Native.Nat.{ℕ}
+use lib.Dec.{eqb}
 use lib.IntN.{ℤ}
 use Rattle.bits.specs.Fields.{bit}
 use Rattle.refusal.specs.Lowest.{Rule, lowest}
-use Rattle.refusal.specs.Number.{numberOfVerdict}
+use Rattle.refusal.specs.Number.{numberOfVerdict, told}
 use Rattle.refusal.specs.Written.{noRoom, written}
 use Rattle.refusal.specs.declared.Refusal.the-variants.{WrongMark, NoRoom}
 use Rattle.consist.specs.Consist as consist
@@ -14,7 +15,6 @@ use Rattle.targets.specs.Targets as targets
 use Rattle.sample.specs.Sample as sample
 use Rattle.decision.specs.declared.Decision.{Decision}
 use Rattle.decision.specs.Decision as decision
-use Rattle.mount.specs.Told.{told}
 
 -- ---- the consist
 
@@ -48,10 +48,11 @@ targetsJudged t = numberOfVerdict (lowest (targets.judgeRules t))
 
 -- ---- the sample
 
--- the record's fields in its order; speed, front and rear are "the 32 bits of an IEEE 754 binary32"
-abbrev pub sampleFields : ℕ → Bool → ℕ → ℕ → ℕ → ℕ → List ℕ
+-- the record's fields in its order; any number but 0 says that the rear is present; speed, front and rear are
+-- "the 32 bits of an IEEE 754 binary32"
+abbrev pub sampleFields : (time present head speed front rear : ℕ) → List ℕ
 sampleFields time present head speed front rear =
-    sample.mark ∷ time ∷ bit present ∷ 0 ∷ head ∷ speed ∷ front ∷ rear ∷ []
+    sample.mark ∷ time ∷ bit (not (eqb present 0)) ∷ 0 ∷ head ∷ speed ∷ front ∷ rear ∷ []
 
 -- 3, "rear lost with rear bits not zero", which only numbers can say; then 4, 8 and 12
 abbrev pub sampleWriteRules : List ℕ → List ℕ → List Rule
@@ -66,13 +67,16 @@ sampleJudged s = numberOfVerdict (lowest (sample.readRules s))
 
 -- ---- the decision
 
--- time, brake state, penalty (1 or 0), cause, stopping location
+-- five: time, brake state, penalty (1 or 0), cause, stopping location
+abbrev pub decisionNumbers : ℕ
+decisionNumbers = 5
+
 abbrev pub numbersOf : Decision → List ℕ
 numbersOf d = d .time ∷ d .state ∷ bit (d .penalty) ∷ d .cause ∷ d .stop ∷ []
 
 -- 2, 3 and 4; then 12, room for fewer than five numbers
 abbrev pub decisionRules : List ℕ → List ℕ → List Rule
-decisionRules s numbers = decision.readRules s ++ (noRoom 5 numbers, NoRoom) ∷ []
+decisionRules s numbers = decision.readRules s ++ (noRoom decisionNumbers numbers, NoRoom) ∷ []
 
 unfoldable pub decisionRead : List ℕ → List ℕ → ℕ × List ℕ
 decisionRead s numbers = told (written (lowest (decisionRules s numbers)) (numbersOf (decision.decisionIn s)) numbers)

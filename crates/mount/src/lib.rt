@@ -4,26 +4,35 @@ pub mod records;
 
 use refusal::Verdict;
 ghost use mathlib.Core.Path.{_≡_};
-ghost use Rattle.mount.specs.Mount.{openBytes, sampleBytes, isOpenBytes};
+ghost use Rattle.held.specs.Held.{readSession};
+ghost use Rattle.mount.specs.Mount.{front, openBytes, sampleBytes, isOpenBytes};
 
-// Opens a session anew with the consist, in the first 36 bytes of `session`.
+// Opens a session anew with the consist: writes its record to the front of `session`.
 #[no_mangle]
 pub extern "C" fn buongilach_open(session: &mut [u8], consist: &[u8]) -> u8
     ensures { λ r. ⌜ (r, now (session .exit)) ≡ openBytes (now (consist .entry)) (now (session .entry)) ⌝ }
 {
     let answer = session::open(session::none(), consist);
-    let opened = answer.session;
     let verdict = answer.verdict;
-    match verdict {
-        Verdict::Refused(r) => refusal::number(r),
-        Verdict::Accepted => {
-            let verdict = held::write(opened, session);
-            refusal::verdict_number(verdict)
-        }
-    }
+    let Verdict::Accepted = verdict else {
+        return refusal::verdict_number(verdict);
+    };
+    let opened = answer.session;
+    let verdict = held::write(opened, session);
+    refusal::verdict_number(verdict)
 }
 
-// Judges a sample, with the profile and the targets lent for it, moves the session on and writes the decision to the first 8 bytes of `decision`.
+// The session of the record at the front; a shorter buffer has none.
+fn read_front(session: &[u8]) -> held::Answer
+    ensures { λ r. ⌜ (r .verdict, r .session) ≡ readSession (front (now (session .entry))) ⌝ }
+{
+    if session.len() < held::SIZE {
+        return held::read(session);
+    }
+    held::read(&session[..held::SIZE])
+}
+
+// Judges a sample, with the profile and the targets lent for it, moves the session on and writes the decision to the front of `decision`.
 #[no_mangle]
 pub extern "C" fn buongilach_sample(
     session: &mut [u8],
@@ -34,30 +43,31 @@ pub extern "C" fn buongilach_sample(
 ) -> u8
     ensures { λ r. ⌜ (r, now (session .exit), now (decision .exit)) ≡ sampleBytes (now (session .entry)) (now (sample .entry)) (now (profile .entry)) (now (targets .entry)) (now (decision .entry)) ⌝ }
 {
-    match held::read(&session[..]) {
-        held::Answer::Refused(r) => refusal::number(r),
-        held::Answer::Accepted(x) => {
-            let answer = session::sample(x, sample, profile, targets, decision);
-            let next = answer.session;
-            let verdict = answer.verdict;
-            match verdict {
-                Verdict::Refused(r) => refusal::number(r),
-                Verdict::Accepted => {
-                    let verdict = held::write(next, session);
-                    refusal::verdict_number(verdict)
-                }
-            }
-        }
-    }
+    let found = read_front(&session[..]);
+    let read = found.verdict;
+    let Verdict::Accepted = read else {
+        return refusal::verdict_number(read);
+    };
+    let x = found.session;
+    let answer = session::sample(x, sample, profile, targets, decision);
+    let judged = answer.verdict;
+    let Verdict::Accepted = judged else {
+        return refusal::verdict_number(judged);
+    };
+    let next = answer.session;
+    let verdict = held::write(next, session);
+    refusal::verdict_number(verdict)
 }
 
-// Whether the bytes are an open session's.
+// Whether an open session's record stands at the front.
 #[no_mangle]
 pub extern "C" fn buongilach_is_open(session: &[u8]) -> bool
     ensures { λ r. ⌜ r ≡ isOpenBytes (now (session .entry)) ⌝ }
 {
-    match held::read(session) {
-        held::Answer::Accepted(_) => true,
-        held::Answer::Refused(_) => false,
-    }
+    let found = read_front(session);
+    let verdict = found.verdict;
+    let Verdict::Accepted = verdict else {
+        return false;
+    };
+    true
 }

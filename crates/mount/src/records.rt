@@ -2,15 +2,16 @@
 use consist::Consist;
 use decision::Decision;
 use refusal::Refusal;
+use refusal::Step;
+use refusal::Verdict;
 use sample::RawSample;
 use sample::Rear;
 ghost use mathlib.Core.Path.{_≡_};
-ghost use mathlib.Core.Bool.{not};
 ghost use mathlib.Core.List.{[], _∷_, _++_};
 ghost use Prim.Native.Nat.{_≤_};
 ghost use lib.ListN as list;
 ghost use Rattle.sample.specs.Sample.{rearOf};
-ghost use Rattle.mount.specs.Records.{consistWritten, consistJudged, profileWritten, profileJudged, targetsWritten, targetsJudged, sampleFields, sampleWritten, sampleJudged, numbersOf, decisionRead};
+ghost use Rattle.mount.specs.Records.{consistWritten, consistJudged, profileWritten, profileJudged, targetsWritten, targetsJudged, sampleFields, sampleWritten, sampleJudged, decisionNumbers, numbersOf, decisionRead};
 
 #[no_mangle]
 pub extern "C" fn buongilach_write_consist(
@@ -46,10 +47,9 @@ pub extern "C" fn buongilach_write_consist(
 pub extern "C" fn buongilach_judge_consist(consist: &[u8]) -> u8
     ensures { λ r. ⌜ r ≡ consistJudged (now (consist .entry)) ⌝ }
 {
-    match consist::read(consist) {
-        consist::Answer::Accepted(_) => 0,
-        consist::Answer::Refused(r) => refusal::number(r),
-    }
+    let answer = consist::read(consist);
+    let verdict = answer.verdict;
+    refusal::verdict_number(verdict)
 }
 
 #[no_mangle]
@@ -69,10 +69,9 @@ pub extern "C" fn buongilach_write_profile(
 pub extern "C" fn buongilach_judge_profile(profile: &[u8]) -> u8
     ensures { λ r. ⌜ r ≡ profileJudged (now (profile .entry)) ⌝ }
 {
-    match profile::judge(profile) {
-        profile::Judged::Records(_) => 0,
-        profile::Judged::Refused(r) => refusal::number(r),
-    }
+    let judged = profile::judge(profile);
+    let verdict = judged.verdict;
+    refusal::verdict_number(verdict)
 }
 
 #[no_mangle]
@@ -87,40 +86,41 @@ pub extern "C" fn buongilach_write_targets(locations: &[u32], speeds: &[u16], ou
 pub extern "C" fn buongilach_judge_targets(targets: &[u8]) -> u8
     ensures { λ r. ⌜ r ≡ targetsJudged (now (targets .entry)) ⌝ }
 {
-    match targets::judge(targets) {
-        targets::Judged::Records(_) => 0,
-        targets::Judged::Refused(r) => refusal::number(r),
-    }
+    let judged = targets::judge(targets);
+    let verdict = judged.verdict;
+    refusal::verdict_number(verdict)
 }
 
-fn rear_of(present: bool, bits: u32) -> Rear
-    ensures { λ r. ⌜ r ≡ rearOf (not present) bits ⌝ }
+fn rear_of(lost: bool, bits: u32) -> Rear
+    ensures { λ r. ⌜ r ≡ rearOf lost bits ⌝ }
 {
-    if present {
-        Rear::Present(hundredths::float_of(bits))
-    } else {
+    if lost {
         Rear::Lost
+    } else {
+        Rear::Present(hundredths::float_of(bits))
     }
 }
 
+// Any `present` but 0 says that the rear is present.
 #[no_mangle]
 pub extern "C" fn buongilach_write_sample(
     time: u32,
     head: u32,
     speed: u32,
     front: u32,
-    present: bool,
+    present: u32,
     rear: u32,
     out: &mut [u8],
 ) -> u8
     ensures { λ r. ⌜ (r, now (out .exit)) ≡ sampleWritten (sampleFields time present head speed front rear) (now (out .entry)) ⌝ }
 {
-    if !present & (rear != 0) {
+    let lost = present == 0;
+    let Step::On = refusal::unless(lost & (rear != 0)) else {
         return refusal::number(Refusal::WrongMark);
-    }
+    };
     let speed = hundredths::float_of(speed);
     let front = hundredths::float_of(front);
-    let rear = rear_of(present, rear);
+    let rear = rear_of(lost, rear);
     let raw = RawSample {
         time,
         head,
@@ -136,16 +136,18 @@ pub extern "C" fn buongilach_write_sample(
 pub extern "C" fn buongilach_judge_sample(sample: &[u8]) -> u8
     ensures { λ r. ⌜ r ≡ sampleJudged (now (sample .entry)) ⌝ }
 {
-    match sample::read(sample) {
-        sample::Answer::Accepted(_) => 0,
-        sample::Answer::Refused(r) => refusal::number(r),
-    }
+    let answer = sample::read(sample);
+    let verdict = answer.verdict;
+    refusal::verdict_number(verdict)
 }
 
-// Puts a decision's numbers over the first five of `out`.
+// How many numbers a decision is.
+const DECISION_NUMBERS: usize = 5;
+
+// Puts a decision's numbers over the first of `out`.
 fn put_numbers(d: Decision, out: &mut [u32])
-    requires { ⌜ 5 ≤ list.length (now out) ⌝ }
-    ensures { λ _. ⌜ now (out .exit) ≡ numbersOf d ++ list.drop 5 (now (out .entry)) ⌝ }
+    requires { ⌜ decisionNumbers ≤ list.length (now out) ⌝ }
+    ensures { λ _. ⌜ now (out .exit) ≡ numbersOf d ++ list.drop decisionNumbers (now (out .entry)) ⌝ }
 {
     out[0] = d.time;
     out[1] = d.state as u32;
@@ -158,14 +160,15 @@ fn put_numbers(d: Decision, out: &mut [u32])
 pub extern "C" fn buongilach_read_decision(decision: &[u8], numbers: &mut [u32]) -> u8
     ensures { λ r. ⌜ (r, now (numbers .exit)) ≡ decisionRead (now (decision .entry)) (now (numbers .entry)) ⌝ }
 {
-    match decision::read(decision) {
-        decision::Answer::Refused(r) => refusal::number(r),
-        decision::Answer::Accepted(d) => {
-            if numbers.len() < 5 {
-                return refusal::number(Refusal::NoRoom);
-            }
-            put_numbers(d, numbers);
-            0
-        }
-    }
+    let answer = decision::read(decision);
+    let verdict = answer.verdict;
+    let Verdict::Accepted = verdict else {
+        return refusal::verdict_number(verdict);
+    };
+    let Step::On = refusal::unless(numbers.len() < DECISION_NUMBERS) else {
+        return refusal::number(Refusal::NoRoom);
+    };
+    let d = answer.decision;
+    put_numbers(d, numbers);
+    0
 }

@@ -1,11 +1,11 @@
 -- The profile's figures, computed. Assumes nothing.
 use mathlib.Core.Path.{refl}
-use Rattle.refusal.specs.Lowest.{lowest}
-use Rattle.profile.specs.Profile.{counted, inRange, good, ends, kept, recordAt, segmentAt, spareZero, keptIn, bytesOf, judgeProfile}
+use Rattle.table.proofs.Computing.{computing}
+use Rattle.profile.specs.Profile.{inRange, ends}
 use Rattle.profile.specs.Figures.{Figures}
 
 pub figures : Figures
-unfolding counted inRange good ends kept recordAt segmentAt spareZero keptIn bytesOf judgeProfile lowest
+unfolding computing inRange ends
 figures = record {
   minus-one = refl;
   steepest = refl;

@@ -1,14 +1,15 @@
 -- Eleven bits and the grade that they are: each undoes the other. Assumes nothing.
 use mathlib.Core.Path.{_≡_, refl, sym, ap, _∙_}
-use mathlib.Core.Bool.{true, false, _&&_, and-true, false≢true}
-use Prim.Native.Nat.{ℕ, suc, _-_, _≤_, _<_, _^_}
-use native.Mathlib.Nat.{not-suc-le-zero}
+use mathlib.Core.Bool.{_&&_, and-true}
+use Prim.Native.Nat.{ℕ, suc, _+_, _-_, _%_, _≤_, _<_, _^_}
 use native.Mathlib.Decide.{decLt}
 use native.Mathlib.Omega.{arith}
-use lib.Dec.{leb, leb·suc-suc}
+use lib.Dec.{leb, eqb, leb·suc-suc, eqb·suc-zero}
 use lib.IntN.{ℤ, pos, negsuc, natAbs, _+ℤ_}
-use lib.Signed.{mag, leZ, ltZ}
-use borrow.Author.Tests.{lt-ltb, le-ltb, ltb-true}
+use lib.Signed.{mag, leZ}
+use mir.Syntax.{w16}
+use mir.Val.{ofZ}
+use borrow.Author.Tests.{lt-ltb, le-ltb, ne-eqb}
 use Rattle.profile.specs.Grade.{gradeOf, gradeBits}
 
 pub lower-half : (n : ℕ) → n < 2 ^ 10 → gradeOf n ≡ pos n
@@ -28,10 +29,6 @@ pub grade-of-bits : (z : ℤ) → mag z < 2 ^ 10 → gradeOf (gradeBits z) ≡ z
 grade-of-bits (pos n) h = lower-half n h
 grade-of-bits (negsuc n) h = upper-half (2 ^ 11 - suc n) (omega arith) (omega arith) ∙ ap negsuc (omega arith)
 
-pub bits-fit : (z : ℤ) → mag z < 2 ^ 10 → gradeBits z < 2 ^ 11
-bits-fit (pos n) h = omega arith
-bits-fit (negsuc n) h = omega arith
-
 -- from -500 to 500
 pub both-ends : (z : ℤ) → leZ (negsuc 499) z && leZ z (pos 500) ≡ leb (natAbs z) 500
 both-ends (pos n) = refl
@@ -42,11 +39,20 @@ pub in-eleven : (z : ℤ) → natAbs z ≤ 500 → mag z < 2 ^ 10
 in-eleven (pos n) h = omega arith
 in-eleven (negsuc n) h = omega arith
 
--- the bits of a grade, by its sign
-pub below-zero : (z : ℤ) → ltZ z (pos 0) ≡ true → mag z < 2 ^ 10 → z +ℤ pos (2 ^ 11) ≡ pos (gradeBits z)
-below-zero (pos n) h k = absurd (not-suc-le-zero (ltb-true n 0 h))
-below-zero (negsuc n) h k = rw (le-ltb (2 ^ 11) (suc n) (omega arith))
+-- the bits of a grade are the lowest of what is 2 ^ 11 more, which is above zero
+abbrev pub above : ℤ → ℕ
+above (pos n) = n + 2 ^ 11
+above (negsuc n) = 2 ^ 11 - suc n
 
-pub from-zero : (z : ℤ) → ltZ z (pos 0) ≡ false → z ≡ pos (gradeBits z)
-from-zero (pos n) h = refl
-from-zero (negsuc n) h = absurd (false≢true (sym h))
+pub lifted : (z : ℤ) → mag z < 2 ^ 10 → z +ℤ pos (2 ^ 11) ≡ pos (above z)
+lifted (pos n) h = refl
+lifted (negsuc n) h = rw (le-ltb (2 ^ 11) (suc n) (omega arith))
+
+pub lowest-bits : (z : ℤ) → mag z < 2 ^ 10 → (above z < 2 ^ 12) × (above z % 2 ^ 11 ≡ gradeBits z)
+lowest-bits (pos n) h = omega arith
+lowest-bits (negsuc n) h = omega arith
+
+-- the bits of a number are zero where the number is
+pub zero-bits : (z : ℤ) → mag z < 2 ^ 15 → eqb (ofZ w16 z) 0 ≡ eqb (natAbs z) 0
+zero-bits (pos n) h = refl
+zero-bits (negsuc n) h = ne-eqb (2 ^ 16 - suc n) 0 (λ e. omega arith) ∙ sym (eqb·suc-zero n)

@@ -1,55 +1,50 @@
--- An accepted profile keeps every rule, said of the numbers. Assumes nothing.
-use mathlib.Core.Path.{_≡_, refl, ap, subst}
-use Prim.Native.Nat.{ℕ, suc, _-_, _*_, _%_, _<_}
+-- What one segment and its fields have to do with each other, and what the judge and the writer accept, said of the numbers. Assumes nothing.
+use mathlib.Core.Path.{_≡_, refl, sym, ap, ap₂, _∙_}
+use mathlib.Core.Bool.{Bool, true, _&&_, and-assoc}
+use mathlib.Core.List.{List, [], _∷_}
+use Prim.Native.Nat.{ℕ, _/_, _%_, _^_, _≤_}
 use native.Mathlib.Omega.{arith}
-use mathlib.Core.Bool.{true}
-use mathlib.Core.List.{List}
-use lib.ListN.{length}
-use lib.Dec.{eqb}
+use lib.Dec.{leb, eqb}
 use lib.IntN.{ℤ, pos, negsuc, natAbs}
-use borrow.Author.Tests.{ltb-true, eqb-true, not-false}
-use Rattle.bits.specs.Tables.{every}
+use lib.ListN.{length}
+use borrow.Author.Tests.{leb-true, eqb-true}
+use Rattle.bits.specs.Fields.{split, Fit}
 use Rattle.bits.proofs.Ranges.{and-true-left, and-true-right}
-use Rattle.refusal.specs.declared.Verdict.{Verdict}
-use Rattle.refusal.specs.declared.Verdict.the-variants as verdict
-use Rattle.refusal.proofs.Order.{accepted}
+use Rattle.refusal.specs.declared.Verdict.the-variants.{Accepted}
+use Rattle.table.specs.Table as specs
+use Rattle.table.proofs.Records as records
+use Rattle.table.proofs.Records.{Facts}
+use Rattle.table.proofs.Judging as table
+use Rattle.table.proofs.RoundTrip.{written-kept}
 use Rattle.profile.specs.declared.Segment.{Segment}
-use Rattle.profile.specs.declared.Judged.the-variants.{Records}
-use Rattle.profile.specs.Profile.{size, ends, kept, count, segmentAt, spareZero, keptIn, answer, judgeProfile}
-use Rattle.profile.specs.Sound.{Sound}
-use Rattle.bits.proofs.Tables.{rise-all}
-use Rattle.profile.proofs.Rules.{all-three, ranged, kept-count, kept-range, kept-rises, kept-ends}
+use Rattle.profile.specs.Profile.{fewest, most, widths, fieldsOf, ofFields, spareZero, inRange, ends, segments, counted, count, segmentAt, keptIn, judgeProfile, same, writeProfile}
+use Rattle.profile.specs.Sound.{Ranged, Sound}
+use Rattle.profile.proofs.Grade.{bits-of-grade, grade-of-bits, in-eleven, lowest-bits}
 
--- ---- what is accepted is kept
+-- ---- one segment
 
-answer-records : (v : Verdict) (m n : ℕ) → answer v m ≡ Records n → (v ≡ verdict.Accepted) × (m ≡ n)
-answer-records verdict.Accepted m n h = (refl, cc)
-answer-records (verdict.Refused r) m n h = absurd (let z : _≡_ {A = ℕ} 0 1 = cc in omega arith)
+pub ranged : (g : Segment) → inRange g ≡ true → Ranged g
+unfolding inRange
+ranged g h =
+    let a = leb (natAbs (g .grade)) 500 in
+    let b = leb (g .curvature) 2000 in
+    let l = and-true-left (a && b) (leb (g .start) 4000000) h in
+    record { grade = leb-true _ _ (and-true-left a b l); curvature = leb-true _ _ (and-true-right a b l); start = leb-true _ _ (and-true-right (a && b) _ h) }
 
-pub judged-kept : (p : List ℕ) (n : ℕ) → judgeProfile p ≡ Records n → (keptIn p ≡ true) × (count p ≡ n)
-unfolding judgeProfile
-judged-kept p n h =
-    let a = answer-records _ (count p) n h in
-    (not-false (keptIn p) (accepted _ _ _ (a .0) .0), a .1)
+fits : (g : Segment) → inRange g ≡ true → Fit widths (fieldsOf g)
+fits g h =
+    let r = ranged g h in
+    omega (arith, lowest-bits (g .grade) (in-eleven (g .grade) (r .grade)))
 
--- whole records, spare bits zero, and the rules
-pub record Parts (p : List ℕ) : Type 0 where
-  pub whole : length p % size ≡ 0
-  pub spares : every (count p) (spareZero p) ≡ true
-  pub rules : kept (count p) (segmentAt p) ≡ true
+back : (g : Segment) → inRange g ≡ true → ofFields (fieldsOf g) ≡ g
+back g h = rw (grade-of-bits (g .grade) (in-eleven (g .grade) (ranged g h .grade)))
 
-pub parts : (p : List ℕ) → keptIn p ≡ true → Parts p
-unfolding keptIn
-parts p h =
-    let t = all-three (eqb (length p % size) 0) (every (count p) (spareZero p)) (kept (count p) (segmentAt p)) h in
-    record { whole = eqb-true (length p % size) 0 (t .0); spares = t .1; rules = t .2 }
+forth : (m : ℕ) → spareZero (split widths m) ≡ true → fieldsOf (ofFields (split widths m)) ≡ split widths m
+forth m h =
+    ap₂ (λ (g z : ℕ). m / 2 ^ 24 % 2 ^ 24 ∷ g ∷ m / 2 ^ 2 % 2 ^ 11 ∷ z ∷ []) (bits-of-grade (m / 2 ^ 13 % 2 ^ 11) (omega arith)) (sym (eqb-true (m / 1 % 2 ^ 2) 0 h))
 
-pub judged-length : (p : List ℕ) (n : ℕ) → judgeProfile p ≡ Records n → length p ≡ size * n
-judged-length p n h =
-    let k = judged-kept p n h in
-    omega (arith, parts p (k .0) .whole, k .1)
-
--- ---- what is kept is sound
+pub facts : Facts segments
+facts = record { some = omega arith; whole = refl; narrow = tt; right = λ g. refl; fits = fits; back = back; forth = forth; first = tt }
 
 zero-grade : (z : ℤ) → natAbs z ≡ 0 → z ≡ pos 0
 zero-grade (pos n) h = ap pos h
@@ -62,21 +57,40 @@ ends-zero g h =
     let b = eqb (g .curvature) 0 in
     (zero-grade (g .grade) (eqb-true _ 0 (and-true-left a b h)), eqb-true _ 0 (and-true-right a b h))
 
-pub kept-sound : (n : ℕ) (f : ℕ → Segment) → kept n f ≡ true → Sound n f
-kept-sound n f h =
-    let c = kept-count n f h in
-    let next : (k : ℕ) → suc k < n → f k .start < f (suc k) .start = λ k l. ltb-true _ _ (kept-rises n f h (suc k) l) in
-    let last = ends-zero (f (n - 1)) (kept-ends n f h) in
-    record {
-      fewest = c .0;
-      most = c .1;
-      each = λ k l. ranged (f k) (kept-range n f h k l);
-      rising = rise-all n (λ k. f k .start) next;
-      last-grade = last .0;
-      last-curvature = last .1;
-    }
+-- ---- how many
 
-pub judged-sound : (p : List ℕ) (n : ℕ) → judgeProfile p ≡ Records n → Sound n (segmentAt p)
-judged-sound p n h =
-    let k = judged-kept p n h in
-    subst (λ (m : ℕ). Sound m (segmentAt p)) (k .1) (kept-sound (count p) (segmentAt p) (parts p (k .0) .rules))
+pub counted-is : (whole : Bool) (n : ℕ) → whole && leb fewest n && leb n most ≡ whole && counted n
+unfolding specs.counted
+counted-is whole n = and-assoc whole (leb fewest n) (leb n most)
+
+pub lengths : (starts : List ℕ) (grades : List ℤ) (curvatures : List ℕ) → same starts grades curvatures ≡ true
+    → (length grades ≡ length starts) × (length curvatures ≡ length starts)
+lengths starts grades curvatures h =
+    let a = eqb (length grades) (length starts) in
+    let b = eqb (length curvatures) (length starts) in
+    (eqb-true _ _ (and-true-left a b h), eqb-true _ _ (and-true-right a b h))
+
+-- ---- what is accepted
+
+module _ (p : List ℕ) where
+  pub judge-kept : keptIn p ≡ true → judgeProfile p ≡ (Accepted, count p)
+  judge-kept h = table.judge-is segments p true h
+
+  -- past the last whole record
+  pub past-last : (k : ℕ) → count p ≤ k → segmentAt p k ≡ record { start = 0; grade = pos 0; curvature = 0 }
+  past-last k h = records.past-last segments p k h
+
+  module _ (n : ℕ) (h : judgeProfile p ≡ (Accepted, n)) where
+    pub judged-kept : (keptIn p ≡ true) × (count p ≡ n)
+    judged-kept = table.judged-kept segments p n h
+
+    pub judged-sound : Sound n (segmentAt p)
+    judged-sound =
+        let s = table.judged-sound segments p n h in
+        let last = ends-zero _ (table.closed-last segments n (segmentAt p) (omega (arith, s .fewest)) ∙ s .last) in
+        record { fewest = s .fewest; most = s .most; each = λ k l. ranged (segmentAt p k) (s .each k l); rising = s .rising; last-grade = last .0; last-curvature = last .1 }
+
+pub written-lengths : (starts : List ℕ) (grades : List ℤ) (curvatures out : List ℕ) → writeProfile starts grades curvatures out .0 ≡ Accepted
+    → (length grades ≡ length starts) × (length curvatures ≡ length starts)
+written-lengths starts grades curvatures out h =
+    lengths starts grades curvatures (and-true-left (same starts grades curvatures) _ (written-kept segments _ _ _ out h .0))

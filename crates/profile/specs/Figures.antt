@@ -4,10 +4,9 @@ use Prim.Native.Nat.{ℕ}
 use mathlib.Core.List.{List, [], _∷_, _++_}
 use lib.ListN.{take}
 use lib.IntN.{ℤ, pos, negsuc}
-use Rattle.refusal.specs.declared.Refusal.the-variants.{BrokenProfile}
-use Rattle.profile.specs.declared.Judged.the-variants.{Records, Refused}
+use Rattle.refusal.specs.declared.Verdict.the-variants.{Accepted}
 use Rattle.profile.specs.Grade.{gradeBits}
-use Rattle.profile.specs.Profile.{segmentAt, judgeProfile, segmentOf, bytesOf}
+use Rattle.profile.specs.Profile.{segmentAt, broken, judgeProfile, segmentOf, bytesOf}
 
 -- the bytes of two records: the first has grade g, the last has grade h
 abbrev pub two : ℕ → ℕ → ℤ → ℤ → List ℕ
@@ -23,13 +22,13 @@ pub record Figures : Type 0 where
   pub steepest : gradeBits (negsuc 499) ≡ 1548
   pub downhill : segmentAt (two 0 40000 (negsuc 499) (pos 0)) 0 .grade ≡ negsuc 499
   pub bytes : level ≡ 0 ∷ 0 ∷ 0 ∷ 0 ∷ 0 ∷ 0 ∷ 0 ∷ 156 ∷ 64 ∷ 0 ∷ 0 ∷ 0 ∷ []
-  pub accepted : judgeProfile level ≡ Records 2
-  pub one-record : judgeProfile (take 6 level) ≡ Refused BrokenProfile
-  pub equal-starts : judgeProfile (two 40000 40000 (pos 0) (pos 0)) ≡ Refused BrokenProfile
-  pub too-steep : judgeProfile (two 0 40000 (negsuc 500) (pos 0)) ≡ Refused BrokenProfile
-  pub graded-end : judgeProfile (two 0 40000 (pos 0) (pos 1)) ≡ Refused BrokenProfile
-  pub spare-bit : judgeProfile (0 ∷ 0 ∷ 0 ∷ 0 ∷ 0 ∷ 1 ∷ 0 ∷ 156 ∷ 64 ∷ 0 ∷ 0 ∷ 0 ∷ []) ≡ Refused BrokenProfile
-  pub farthest : judgeProfile (two 0 4000000 (pos 0) (pos 0)) ≡ Records 2
-  pub too-far : judgeProfile (two 0 4000001 (pos 0) (pos 0)) ≡ Refused BrokenProfile
-  pub no-bytes : judgeProfile [] ≡ Refused BrokenProfile
-  pub thirteen-bytes : judgeProfile (level ++ 0 ∷ []) ≡ Refused BrokenProfile
+  pub accepted : judgeProfile level ≡ (Accepted, 2)
+  pub one-record : judgeProfile (take 6 level) ≡ broken
+  pub equal-starts : judgeProfile (two 40000 40000 (pos 0) (pos 0)) ≡ broken
+  pub too-steep : judgeProfile (two 0 40000 (negsuc 500) (pos 0)) ≡ broken
+  pub graded-end : judgeProfile (two 0 40000 (pos 0) (pos 1)) ≡ broken
+  pub spare-bit : judgeProfile (0 ∷ 0 ∷ 0 ∷ 0 ∷ 0 ∷ 1 ∷ 0 ∷ 156 ∷ 64 ∷ 0 ∷ 0 ∷ 0 ∷ []) ≡ broken
+  pub farthest : judgeProfile (two 0 4000000 (pos 0) (pos 0)) ≡ (Accepted, 2)
+  pub too-far : judgeProfile (two 0 4000001 (pos 0) (pos 0)) ≡ broken
+  pub no-bytes : judgeProfile [] ≡ broken
+  pub thirteen-bytes : judgeProfile (level ++ 0 ∷ []) ≡ broken

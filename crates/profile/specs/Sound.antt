@@ -3,6 +3,7 @@ use mathlib.Core.Path.{_≡_}
 use Prim.Native.Nat.{ℕ, _-_, _≤_, _<_}
 use lib.IntN.{pos, natAbs}
 use Rattle.profile.specs.declared.Segment.{Segment}
+use Rattle.profile.specs.Profile as profile
 
 -- a segment in range
 pub record Ranged (g : Segment) : Type 0 where
@@ -12,8 +13,8 @@ pub record Ranged (g : Segment) : Type 0 where
 
 -- n records
 pub record Sound (n : ℕ) (f : ℕ → Segment) : Type 0 where
-  pub fewest : 2 ≤ n
-  pub most : n ≤ 257
+  pub fewest : profile.fewest ≤ n
+  pub most : n ≤ profile.most
   pub each : (k : ℕ) → k < n → Ranged (f k)
   pub rising : (k m : ℕ) → k < m → m < n → f k .start < f m .start
   pub last-grade : f (n - 1) .grade ≡ pos 0

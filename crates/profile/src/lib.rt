@@ -1,17 +1,17 @@
 // The profile: records of 6 bytes, each a segment of track.
 use refusal::Refusal;
+use refusal::Step;
 use refusal::Verdict;
 ghost use mathlib.Core.Path.{_≡_};
 ghost use mathlib.Core.Bool.{true, _&&_, _||_};
-ghost use Prim.Native.Nat.{_*_, _^_, _<_, _≤_};
-ghost use mathlib.Core.List.{_++_};
-ghost use lib.ListN.{length, drop};
+ghost use Prim.Native.Nat.{_^_, _<_};
+ghost use lib.ListN.{length};
 ghost use lib.Signed.{mag};
 ghost use lib.Dec.{eqb, ltb};
-ghost use Rattle.bits.specs.Fields.{split, join};
-ghost use Rattle.bits.specs.Tables.{every};
+ghost use Rattle.bits.specs.Places.{putFrom};
+ghost use Rattle.refusal.specs.Number.{told};
 ghost use Rattle.profile.specs.Grade.{gradeOf, gradeBits};
-ghost use Rattle.profile.specs.Profile.{size, widths, fieldsOf, ofFields, count, recordAt, segmentAt, spareZero, segmentOf, bytesOf, counted, inRange, good, ends, keptIn, keptOf, judgeProfile, writeProfile};
+ghost use Rattle.profile.specs.Profile.{widths, fieldsOf, inRange, ends, segmentAt, spareZeroAt, broken, judgeProfile, segmentOf, keptOf, writeProfile};
 
 // The track from a record's start to the next one's.
 pub struct Segment {
@@ -23,26 +23,28 @@ pub struct Segment {
     pub curvature: u16,
 }
 
-// What judging a profile answers: how many records it has, or why it is refused.
-pub enum Judged {
-    Records(usize),
-    Refused(Refusal),
+impl Segment {
+    // Bytes of a record.
+    pub const SIZE: usize = 6;
+    // The fewest and the most records.
+    pub const FEWEST: usize = 2;
+
+    pub const MOST: usize = 257;
+
+    // The greatest start.
+    pub const FARTHEST: u32 = 4_000_000;
+    // The least and the greatest grade.
+    pub const STEEPEST_DOWN: i16 = -500;
+
+    pub const STEEPEST_UP: i16 = 500;
+    // The greatest curvature.
+    pub const SHARPEST: u16 = 2_000;
 }
 
-// Bytes a record.
-const SIZE: usize = 6;
-
-// Record k as one number; past the last whole record, zero.
-fn record_at(p: &[u8], k: usize) -> u64
-    ensures { λ r. ⌜ r ≡ recordAt (now (p .entry)) k ⌝ }
-{
-    if k < p.len() / SIZE {
-        let from = SIZE * k;
-        let to = from + SIZE;
-        bits::word(&p[from..to])
-    } else {
-        0
-    }
+// What judging a profile answers: how many records it has; none where it is refused.
+pub struct Judged {
+    pub verdict: Verdict,
+    pub records: usize,
 }
 
 // The grade that eleven bits are.
@@ -57,39 +59,33 @@ fn grade_of(n: u64) -> i16
     }
 }
 
-// The segment that a record's number is.
-fn of_number(n: u64) -> Segment
-    ensures { λ r. ⌜ r ≡ ofFields (split widths n) ⌝ }
-{
-    Segment {
-        start: (n / 0x100_0000 % 0x100_0000) as u32,
-        grade: grade_of(n / 0x2000 % 0x800),
-        curvature: (n / 4 % 0x800) as u16,
-    }
-}
-
 // Record k; past the last whole record, one of zeros.
 pub fn segment_at(p: &[u8], k: usize) -> Segment
     ensures { λ r. ⌜ r ≡ segmentAt (now (p .entry)) k ⌝ }
 {
-    of_number(record_at(p, k))
+    let s = table::record(p, Segment::SIZE, k);
+    Segment {
+        start: bits::field(s, 0, 24) as u32,
+        grade: grade_of(bits::field(s, 24, 11)),
+        curvature: bits::field(s, 35, 11) as u16,
+    }
 }
 
-// Whether a profile may have n records.
-fn counts(n: usize) -> bool
-    ensures { λ r. ⌜ r ≡ counted n ⌝ }
+// Whether the spare bits of record k are zero.
+fn spare_zero(p: &[u8], k: usize) -> bool
+    ensures { λ r. ⌜ r ≡ spareZeroAt (now (p .entry)) k ⌝ }
 {
-    (2 <= n) & (n <= 257)
+    bits::field(table::record(p, Segment::SIZE, k), 46, 2) == 0
 }
 
 // Whether a segment may be record k, after one that starts at `before`: it is in range, and starts above that.
 fn good_after(g: Segment, k: usize, before: u32) -> bool
     ensures { λ r. ⌜ r ≡ (inRange g && (eqb k 0 || ltb before (g .start))) ⌝ }
 {
-    (-500 <= g.grade)
-        & (g.grade <= 500)
-        & (g.curvature <= 2_000)
-        & (g.start <= 4_000_000)
+    (Segment::STEEPEST_DOWN <= g.grade)
+        & (g.grade <= Segment::STEEPEST_UP)
+        & (g.curvature <= Segment::SHARPEST)
+        & (g.start <= Segment::FARTHEST)
         & ((k == 0) | (before < g.start))
 }
 
@@ -100,49 +96,37 @@ fn only_ends(g: Segment) -> bool
     (g.grade == 0) & (g.curvature == 0)
 }
 
-// Whether every record has its spare bits zero, is in range, and starts above the one before it.
-fn records_good(p: &[u8]) -> bool
-    ensures { λ r. ⌜ r ≡ (every (count (now (p .entry))) (spareZero (now (p .entry))) && every (count (now (p .entry))) (good (segmentAt (now (p .entry))))) ⌝ }
+fn refused() -> Judged
+    ensures { λ r. ⌜ (r .verdict, r .records) ≡ broken ⌝ }
 {
-    let n = p.len() / SIZE;
-    let mut before: u32 = 0;
-    let mut k: usize = 0;
-    while k < n {
-        let w = record_at(p, k);
-        let g = of_number(w);
-        if !((w % 4 == 0) & good_after(g, k, before)) {
-            return false;
-        }
-        before = g.start;
-        k += 1;
+    Judged {
+        verdict: Verdict::Refused(Refusal::BrokenProfile),
+        records: 0,
     }
-    true
-}
-
-// Whether bytes keep every rule of a profile.
-fn keeps(p: &[u8]) -> bool
-    ensures { λ r. ⌜ r ≡ keptIn (now (p .entry)) ⌝ }
-{
-    let n = p.len() / SIZE;
-    if p.len() % SIZE != 0 {
-        return false;
-    }
-    if !counts(n) {
-        return false;
-    }
-    if !records_good(p) {
-        return false;
-    }
-    only_ends(segment_at(p, n - 1))
 }
 
 pub fn judge(p: &[u8]) -> Judged
-    ensures { λ r. ⌜ r ≡ judgeProfile (now (p .entry)) ⌝ }
+    ensures { λ r. ⌜ told (r .verdict, r .records) ≡ told (judgeProfile (now (p .entry))) ⌝ }
 {
-    if keeps(p) {
-        Judged::Records(p.len() / SIZE)
-    } else {
-        Judged::Refused(Refusal::BrokenProfile)
+    let n = p.len() / Segment::SIZE;
+    let whole = p.len() % Segment::SIZE == 0;
+    let Step::On = refusal::unless(!(whole & (Segment::FEWEST <= n) & (n <= Segment::MOST))) else {
+        return refused();
+    };
+    let last = n - 1;
+    let mut good = true;
+    let mut before: u32 = 0;
+    for k in 0..n {
+        let g = segment_at(p, k);
+        good = good & (spare_zero(p, k) & good_after(g, k, before));
+        before = g.start;
+    }
+    let Step::On = refusal::unless(!(good & only_ends(segment_at(p, last)))) else {
+        return refused();
+    };
+    Judged {
+        verdict: Verdict::Accepted,
+        records: n,
     }
 }
 
@@ -158,42 +142,26 @@ fn row_at(starts: &[u32], grades: &[i16], curvatures: &[u16], k: usize) -> Segme
     }
 }
 
-// Whether every record of three lists is in range and starts above the one before it.
-fn rows_good(starts: &[u32], grades: &[i16], curvatures: &[u16]) -> bool
-    requires { ⌜ (length (now grades) ≡ length (now starts)) × (length (now curvatures) ≡ length (now starts)) ⌝ }
-    ensures { λ r. ⌜ r ≡ every (length (now (starts .entry))) (good (segmentOf (now (starts .entry)) (now (grades .entry)) (now (curvatures .entry)))) ⌝ }
-{
-    let mut before: u32 = 0;
-    let mut k: usize = 0;
-    while k < starts.len() {
-        let g = row_at(starts, grades, curvatures, k);
-        if !good_after(g, k, before) {
-            return false;
-        }
-        before = g.start;
-        k += 1;
-    }
-    true
-}
-
 // Whether three lists keep every rule of a profile.
 fn rows_keep(starts: &[u32], grades: &[i16], curvatures: &[u16]) -> bool
     ensures { λ r. ⌜ r ≡ keptOf (now (starts .entry)) (now (grades .entry)) (now (curvatures .entry)) ⌝ }
 {
-    let n = starts.len();
-    if grades.len() != n {
+    let rows = starts.len();
+    if !((grades.len() == rows)
+        & (curvatures.len() == rows)
+        & (Segment::FEWEST <= rows)
+        & (rows <= Segment::MOST)) {
         return false;
     }
-    if curvatures.len() != n {
-        return false;
+    let last = rows - 1;
+    let mut good = true;
+    let mut before: u32 = 0;
+    for k in 0..rows {
+        let g = row_at(starts, grades, curvatures, k);
+        good = good & good_after(g, k, before);
+        before = g.start;
     }
-    if !counts(n) {
-        return false;
-    }
-    if !rows_good(starts, grades, curvatures) {
-        return false;
-    }
-    only_ends(row_at(starts, grades, curvatures, n - 1))
+    good & only_ends(row_at(starts, grades, curvatures, last))
 }
 
 // The eleven bits of a grade.
@@ -201,46 +169,32 @@ fn grade_bits(grade: i16) -> u64
     requires { ⌜ mag grade < 2 ^ 10 ⌝ }
     ensures { λ r. ⌜ r ≡ gradeBits grade ⌝ }
 {
-    if grade < 0 {
-        (grade + 0x800) as u64
-    } else {
-        grade as u64
-    }
+    (grade + 0x800) as u64 % 0x800
 }
 
-// The number of a segment's record.
-fn number_of(g: Segment) -> u64
+// Writes a segment's record over the front of `out`.
+fn put(g: Segment, out: &mut [u8])
     requires { ⌜ inRange g ≡ true ⌝ }
-    ensures { λ r. ⌜ r ≡ join widths (fieldsOf g) ⌝ }
+    ensures { λ _. ⌜ now (out .exit) ≡ putFrom 0 widths (fieldsOf g) (now (out .entry)) ⌝ }
 {
-    g.start as u64 * 0x100_0000 + grade_bits(g.grade) * 0x2000 + g.curvature as u64 * 4
-}
-
-// Writes the records of three lists to the front of `out`.
-fn put_rows(starts: &[u32], grades: &[i16], curvatures: &[u16], out: &mut [u8])
-    requires { ⌜ (keptOf (now starts) (now grades) (now curvatures) ≡ true) × (size * length (now starts) ≤ length (now out)) ⌝ }
-    ensures { λ _. ⌜ now (out .exit) ≡ bytesOf (length (now (starts .entry))) (segmentOf (now (starts .entry)) (now (grades .entry)) (now (curvatures .entry))) ++ drop (size * length (now (starts .entry))) (now (out .entry)) ⌝ }
-{
-    let mut k: usize = 0;
-    while k < starts.len() {
-        let at = SIZE * k;
-        let end = at + SIZE;
-        let w = number_of(row_at(starts, grades, curvatures, k));
-        bits::put_word(&mut out[at..end], w);
-        k += 1;
-    }
+    let widths = [24, 11, 11, 2];
+    let values = [g.start as u64, grade_bits(g.grade), g.curvature as u64, 0];
+    bits::put_fields(out, 0, &widths, &values);
 }
 
 // Writes the records to the front of `out`, a record for each start, grade and curvature.
 pub fn write(starts: &[u32], grades: &[i16], curvatures: &[u16], out: &mut [u8]) -> Verdict
-    ensures { λ r. ⌜ (r, now (out .exit)) ≡ writeProfile (now (starts .entry)) (now (grades .entry)) (now (curvatures .entry)) (now (out .entry)) ⌝ }
+    ensures { λ r. ⌜ told (r, now (out .exit)) ≡ told (writeProfile (now (starts .entry)) (now (grades .entry)) (now (curvatures .entry)) (now (out .entry))) ⌝ }
 {
-    if !rows_keep(starts, grades, curvatures) {
+    let Step::On = refusal::unless(!rows_keep(starts, grades, curvatures)) else {
         return Verdict::Refused(Refusal::BrokenProfile);
-    }
-    if out.len() < SIZE * starts.len() {
+    };
+    let Step::On = refusal::unless(out.len() < Segment::SIZE * starts.len()) else {
         return Verdict::Refused(Refusal::NoRoom);
+    };
+    for k in 0..starts.len() {
+        let at = Segment::SIZE * k;
+        put(row_at(starts, grades, curvatures, k), &mut out[at..]);
     }
-    put_rows(starts, grades, curvatures, out);
     Verdict::Accepted
 }

@@ -1,166 +1,142 @@
--- What laying out, judging, reading and writing answer, one rule after the other, and what the answers tell. Assumes nothing.
+-- Laying out, judging, reading and writing try their rules in order; what the conditions and the answers tell. Assumes nothing.
 use mathlib.Core.Path.{_≡_, refl, sym, ap, _∙_}
-use Prim.Native.Nat.{ℕ, _≤_, _<_}
-use mathlib.Core.Bool.{Bool, true, false}
-use mathlib.Core.List.{List, [], _∷_, _++_}
-use mathlib.Core.Logic.{_⊎_, inl, inr}
-use lib.ListN.{length, drop}
-use borrow.Author.Tests.{lt-ltb, le-ltb, ltb-false}
-use Rattle.bits.specs.Bytes.{fieldsIn}
+use Prim.Native.Nat.{ℕ, _^_, _<_}
+use mathlib.Core.Bool.{Bool, true, false, _||_}
+use mathlib.Core.List.{List, [], _∷_}
+use lib.ListN.{length}
+use lib.Dec.{leb, eqb, lit<}
+use borrow.Author.Tests.{eqb-true, leb-false, lt-leb, not-false}
+use Rattle.bits.specs.Fields.{Fit}
+use Rattle.bits.specs.Bytes.{num, fieldsIn}
+use Rattle.bits.proofs.Fields.{split-fit}
+use Rattle.bits.proofs.Ranges.{neither}
+use Rattle.hundredths.specs.Reading.{isBad, mostSpeed, mostPressure}
+use Rattle.record.specs.Record.{wrongLength}
 use Rattle.refusal.specs.Lowest.{lowest}
-use Rattle.refusal.specs.declared.Refusal.{Refusal}
 use Rattle.refusal.specs.Written.{noRoom, written}
+use Rattle.refusal.specs.declared.Refusal.{Refusal}
 use Rattle.refusal.specs.declared.Refusal.the-variants.{WrongLength, WrongMark, OutOfRange, BadReading, NoRoom}
 use Rattle.refusal.specs.declared.Verdict.{Verdict}
-use Rattle.refusal.specs.declared.Verdict.the-variants as verdict
-use Rattle.refusal.proofs.Order.{given, passed, last-passed, accepted, written-accepted}
+use Rattle.refusal.specs.declared.Verdict.the-variants.{Accepted, Refused}
+use Rattle.refusal.proofs.Order.{accepted, append-given, append-passed}
+use Rattle.refusal.proofs.Steps.{firstOf, in-order}
+use Rattle.sample.specs.declared.Rear.{Rear}
+use Rattle.sample.specs.declared.Rear.the-variants.{Present, Lost}
 use Rattle.sample.specs.declared.RawSample.{RawSample}
 use Rattle.sample.specs.declared.Sample.{Sample}
-use Rattle.sample.specs.declared.Layout.the-variants as layout
-use Rattle.sample.specs.declared.Judged.the-variants as judged
-use Rattle.sample.specs.declared.Answer.the-variants as answer
-use Rattle.sample.specs.Sample.{widths, rawIn, bytesOf, wrongLength, wrongMark, tooWide, badReading, layoutAnswer, layOut, sampleOf, judgeAnswer, judgeSample, readAnswer, readSample, writeSample}
-use Rattle.sample.proofs.Steps.{LaidOut}
+use Rattle.sample.specs.Sample.{size, widths, readingWidths, presentBit, fieldsOf, readingsOf, rawIn, bytesOf, wrongMark, tooWide, badRear, badReading, answer, layoutRules, layOut, sampleOf, judgeRules, judgement, judgeSample, readRules, readSample, writeRules, writeSample}
 
--- ---- the layout
+-- ---- conditions
 
-layout-accepted : (v : Verdict) (x raw : RawSample) → layoutAnswer v x ≡ layout.Raw raw → (v ≡ verdict.Accepted) × (x ≡ raw)
-layout-accepted verdict.Accepted x raw h = (refl, cc)
-layout-accepted (verdict.Refused r) x raw h = (cc, cc)
+pub right-length : (s : List ℕ) → wrongLength size s ≡ false → length s ≡ size
+unfolding wrongLength
+right-length s h = eqb-true (length s) size (not-false (eqb (length s) size) h)
+
+-- what is not too wide fits its 24 bits
+pub narrow : (raw : RawSample) → tooWide raw ≡ false → (raw .time < 2 ^ 24) × (raw .head < 2 ^ 24)
+unfolding tooWide
+narrow raw h =
+    let n = neither (leb (2 ^ 24) (raw .time)) (leb (2 ^ 24) (raw .head)) h in
+    (leb-false (2 ^ 24) (raw .time) (n .0), leb-false (2 ^ 24) (raw .head) (n .1))
+
+bit-lt : (r : Rear) → presentBit r < 2
+bit-lt (Present x) = lit< tt
+bit-lt Lost = lit< tt
+
+pub fits : (raw : RawSample) → tooWide raw ≡ false → Fit readingWidths (readingsOf raw) → Fit widths (fieldsOf raw)
+fits raw w f = let n = narrow raw w in (lit< tt, (n .0, (bit-lt (raw .rear), (lit< tt, (n .1, f)))))
+
+-- a field of 24 bits is not over 24 bits
+pub laid-narrow : (s : List ℕ) → tooWide (rawIn s) ≡ false
+unfolding rawIn tooWide
+laid-narrow s =
+    let f = split-fit widths (num s) in
+    simp (lt-leb _ _ (f .1 .0), lt-leb _ _ (f .1 .1 .1 .1 .0))
+
+pub each-good : (raw : RawSample) → badReading raw ≡ false
+    → (isBad mostSpeed (raw .speed) ≡ false) × (isBad mostPressure (raw .front) ≡ false) × (badRear (raw .rear) ≡ false)
+unfolding badReading
+each-good raw h =
+    let n = neither (isBad mostSpeed (raw .speed) || isBad mostPressure (raw .front)) (badRear (raw .rear)) h in
+    let m = neither (isBad mostSpeed (raw .speed)) (isBad mostPressure (raw .front)) (n .0) in
+    (m .0, m .1, n .1)
+
+-- ---- the rules in order
+
+pub layout-is : (s : List ℕ) (a b : Bool) → wrongLength size s ≡ a → wrongMark (fieldsIn widths s) ≡ b
+    → layOut s ≡ answer (firstOf ((a, WrongLength) ∷ (b, WrongMark) ∷ [])) (rawIn s)
+unfolding layOut
+layout-is s a b h i = rw (in-order (layoutRules s) tt, h, i)
+
+pub judge-is : (raw : RawSample) (a : Bool) → badReading raw ≡ a → judgeSample raw ≡ judgement (firstOf ((a, BadReading) ∷ [])) (sampleOf raw)
+unfolding judgeSample
+judge-is raw a h = rw (in-order (judgeRules raw) tt, h)
+
+pub write-is : (raw : RawSample) (out : List ℕ) (a b c : Bool) → tooWide raw ≡ a → badReading raw ≡ b → noRoom size out ≡ c
+    → writeSample raw out ≡ written (firstOf ((a, OutOfRange) ∷ (b, BadReading) ∷ (c, NoRoom) ∷ [])) (bytesOf raw) out
+unfolding writeSample
+write-is raw out a b c h i j = rw (in-order (writeRules raw out) tt, h, i, j)
+
+-- ---- what an answer tells
+
+-- past the length and the mark: the raw sample is the one that the bytes stand for
+pub record LaidOut (s : List ℕ) (raw : RawSample) : Type 0 where
+  pub length : wrongLength size s ≡ false
+  pub mark : wrongMark (fieldsIn widths s) ≡ false
+  pub raw-in : raw ≡ rawIn s
 
 module _ (s : List ℕ) where
-  laid : {v w : Verdict} → v ≡ w → layoutAnswer v (rawIn s) ≡ layoutAnswer w (rawIn s)
-  laid h = ap (λ (v : Verdict). layoutAnswer v (rawIn s)) h
+  pub layout-raw : (raw : RawSample) → LaidOut s raw → layOut s ≡ (Accepted, raw)
+  layout-raw raw l = layout-is s false false (l .length) (l .mark) ∙ ap (answer Accepted) (sym (l .raw-in))
 
-  pub layout-length : wrongLength s ≡ true → layOut s ≡ layout.Refused WrongLength
-  unfolding layOut
-  layout-length h = laid (given _ _ _ tt h)
-
-  pub layout-mark : wrongLength s ≡ false → wrongMark (fieldsIn widths s) ≡ true → layOut s ≡ layout.Refused WrongMark
-  unfolding layOut
-  layout-mark l h = laid (passed _ _ _ l ∙ given _ _ _ tt h)
-
-  pub layout-raw : (raw : RawSample) → LaidOut s raw → layOut s ≡ layout.Raw raw
-  unfolding layOut
-  layout-raw raw h = laid (passed _ _ _ (h .length) ∙ last-passed _ _ (h .mark)) ∙ ap layout.Raw (sym (h .raw-in))
-
-  -- what an answer tells
-  pub laid-out : (raw : RawSample) → layOut s ≡ layout.Raw raw → LaidOut s raw
+  pub laid-out : (raw : RawSample) → layOut s ≡ (Accepted, raw) → LaidOut s raw
   unfolding layOut
   laid-out raw h =
-      let v = layout-accepted _ _ _ h in
-      let l = accepted _ _ _ (v .0) in
-      let m = accepted _ _ _ (l .1) in
-      record { length = l .0; mark = m .0; raw-in = sym (v .1) }
+      let v : lowest (layoutRules s) ≡ Accepted = λ i. h i .0 in
+      let l = accepted _ _ _ v in
+      record {
+        length = l .0;
+        mark = accepted _ _ _ (l .1) .0;
+        raw-in = sym (λ i. h i .1) ∙ ap (λ (w : Verdict). answer w (rawIn s) .1) v;
+      }
 
-  pub not-laid-out : (r : Refusal) → layOut s ≡ layout.Refused r
-      → ((wrongLength s ≡ true) × (r ≡ WrongLength)) ⊎ ((wrongLength s ≡ false) × (wrongMark (fieldsIn widths s) ≡ true) × (r ≡ WrongMark))
-  unfolding layOut lowest
-  not-laid-out r h = go (wrongLength s) (wrongMark (fieldsIn widths s)) h
-    where
-      go : (a b : Bool) → layoutAnswer (lowest ((a, WrongLength) ∷ (b, WrongMark) ∷ [])) (rawIn s) ≡ layout.Refused r
-          → ((a ≡ true) × (r ≡ WrongLength)) ⊎ ((a ≡ false) × (b ≡ true) × (r ≡ WrongMark))
-      go true true e = inl (refl, cc)
-      go true false e = inl (refl, cc)
-      go false true e = inr (refl, refl, cc)
-      go false false e = inr (refl, cc, cc)
+  -- the reader refuses what is not laid out, as it was refused there; of what is, the readings decide
+  pub read-refused : (r : Refusal) (raw : RawSample) → layOut s ≡ (Refused r, raw) → readSample s ≡ layOut s
+  unfolding layOut readSample
+  read-refused r raw h =
+      let v : lowest (layoutRules s) ≡ Refused r = λ i. h i .0 in
+      ap (λ (w : Verdict). answer w (rawIn s)) (append-given (layoutRules s) (judgeRules (rawIn s)) r tt v ∙ sym v)
 
--- ---- the judgement
+  pub read-is : (raw : RawSample) (b : Bool) → layOut s ≡ (Accepted, raw) → badReading raw ≡ b → readSample s ≡ answer (firstOf ((b, BadReading) ∷ [])) raw
+  unfolding layOut readSample
+  read-is raw b h e =
+      ap (λ (v : Verdict). answer v (rawIn s)) (append-passed (layoutRules s) (judgeRules (rawIn s)) (λ i. h i .0))
+      ∙ ap (λ (x : RawSample). answer (lowest (judgeRules x)) x) (sym (laid-out raw h .raw-in))
+      ∙ rw (in-order (judgeRules raw) tt, e)
 
-module _ (raw : RawSample) where
-  said : {v w : Verdict} → v ≡ w → judgeAnswer v (sampleOf raw) ≡ judgeAnswer w (sampleOf raw)
-  said h = ap (λ (v : Verdict). judgeAnswer v (sampleOf raw)) h
-
-  pub judge-bad : badReading raw ≡ true → judgeSample raw ≡ judged.Refused BadReading
-  unfolding judgeSample
-  judge-bad h = said (given _ _ _ tt h)
-
-  pub judge-accepted : badReading raw ≡ false → judgeSample raw ≡ judged.Accepted (sampleOf raw)
-  unfolding judgeSample
-  judge-accepted h = said (last-passed _ _ h)
-
-  -- what a judgement tells
-  pub judged-accepted : (x : Sample) → judgeSample raw ≡ judged.Accepted x → (badReading raw ≡ false) × (x ≡ sampleOf raw)
-  unfolding judgeSample lowest
-  judged-accepted x h = go (badReading raw) h
-    where
-      go : (b : Bool) → judgeAnswer (lowest ((b, BadReading) ∷ [])) (sampleOf raw) ≡ judged.Accepted x → (b ≡ false) × (x ≡ sampleOf raw)
-      go true e = (cc, cc)
-      go false e = (refl, cc)
-
-  pub judged-refused : (r : Refusal) → judgeSample raw ≡ judged.Refused r → (badReading raw ≡ true) × (r ≡ BadReading)
-  unfolding judgeSample lowest
-  judged-refused r h = go (badReading raw) h
-    where
-      go : (b : Bool) → judgeAnswer (lowest ((b, BadReading) ∷ [])) (sampleOf raw) ≡ judged.Refused r → (b ≡ true) × (r ≡ BadReading)
-      go true e = (refl, cc)
-      go false e = (cc, cc)
-
--- ---- the reader
-
-read-accepted-by : (v : Verdict) (x raw : RawSample) → readAnswer v x ≡ answer.Accepted raw → (v ≡ verdict.Accepted) × (x ≡ raw)
-read-accepted-by verdict.Accepted x raw h = (refl, cc)
-read-accepted-by (verdict.Refused r) x raw h = (cc, cc)
-
-module _ (s : List ℕ) where
-  told : {v w : Verdict} → v ≡ w → readAnswer v (rawIn s) ≡ readAnswer w (rawIn s)
-  told h = ap (λ (v : Verdict). readAnswer v (rawIn s)) h
-
-  pub read-length : wrongLength s ≡ true → readSample s ≡ answer.Refused WrongLength
-  unfolding readSample
-  read-length h = told (given _ _ _ tt h)
-
-  pub read-mark : wrongLength s ≡ false → wrongMark (fieldsIn widths s) ≡ true → readSample s ≡ answer.Refused WrongMark
-  unfolding readSample
-  read-mark l h = told (passed _ _ _ l ∙ given _ _ _ tt h)
-
-  module _ (raw : RawSample) (h : LaidOut s raw) where
-    pub read-bad : badReading raw ≡ true → readSample s ≡ answer.Refused BadReading
-    unfolding readSample
-    read-bad b = told (passed _ _ _ (h .length) ∙ passed _ _ _ (h .mark) ∙ given _ _ _ tt (ap badReading (sym (h .raw-in)) ∙ b))
-
-    pub read-accepted : badReading raw ≡ false → readSample s ≡ answer.Accepted raw
-    unfolding readSample
-    read-accepted b =
-        told (passed _ _ _ (h .length) ∙ passed _ _ _ (h .mark) ∙ last-passed _ _ (ap badReading (sym (h .raw-in)) ∙ b)) ∙ ap answer.Accepted (sym (h .raw-in))
-
-  -- what an answer tells
-  pub read-inv : (raw : RawSample) → readSample s ≡ answer.Accepted raw → LaidOut s raw × (badReading raw ≡ false)
+  pub read-inv : (raw : RawSample) → readSample s ≡ (Accepted, raw) → LaidOut s raw × (badReading raw ≡ false)
   unfolding readSample
   read-inv raw h =
-      let v = read-accepted-by _ _ _ h in
-      let l = accepted _ _ _ (v .0) in
+      let v : lowest (readRules s) ≡ Accepted = λ i. h i .0 in
+      let l = accepted _ _ _ v in
       let m = accepted _ _ _ (l .1) in
-      let b = accepted _ _ _ (m .1) in
-      (record { length = l .0; mark = m .0; raw-in = sym (v .1) }, ap badReading (sym (v .1)) ∙ b .0)
+      let e : raw ≡ rawIn s = sym (λ i. h i .1) ∙ ap (λ (w : Verdict). answer w (rawIn s) .1) v in
+      (record { length = l .0; mark = m .0; raw-in = e }, ap badReading e ∙ accepted _ _ _ (m .1) .0)
 
--- ---- the writer
+module _ (raw : RawSample) where
+  pub judge-accepted : badReading raw ≡ false → judgeSample raw ≡ (Accepted, sampleOf raw)
+  judge-accepted h = judge-is raw false h
 
-module _ (raw : RawSample) (out : List ℕ) where
-  wrote : {v w : Verdict} → v ≡ w → written v (bytesOf raw) out ≡ written w (bytesOf raw) out
-  wrote h = ap (λ (v : Verdict). written v (bytesOf raw) out) h
+  pub judged-accepted : (x : Sample) → judgeSample raw ≡ (Accepted, x) → (badReading raw ≡ false) × (x ≡ sampleOf raw)
+  unfolding judgeSample
+  judged-accepted x h =
+      let v : lowest (judgeRules raw) ≡ Accepted = λ i. h i .0 in
+      (accepted _ _ _ v .0, sym (λ i. h i .1) ∙ ap (λ (w : Verdict). judgement w (sampleOf raw) .1) v)
 
-  pub write-wide : tooWide raw ≡ true → writeSample raw out ≡ (verdict.Refused OutOfRange, out)
-  unfolding writeSample
-  write-wide h = wrote (given _ _ _ tt h)
-
-  pub write-bad : tooWide raw ≡ false → badReading raw ≡ true → writeSample raw out ≡ (verdict.Refused BadReading, out)
-  unfolding writeSample
-  write-bad w h = wrote (passed _ _ _ w ∙ given _ _ _ tt h)
-
-  pub write-room : tooWide raw ≡ false → badReading raw ≡ false → length out < 20 → writeSample raw out ≡ (verdict.Refused NoRoom, out)
-  unfolding writeSample noRoom
-  write-room w b h = wrote (passed _ _ _ w ∙ passed _ _ _ b ∙ given _ _ _ tt (lt-ltb (length out) 20 h))
-
-  pub write-accepted : tooWide raw ≡ false → badReading raw ≡ false → 20 ≤ length out → writeSample raw out ≡ (verdict.Accepted, bytesOf raw ++ drop 20 out)
-  unfolding writeSample noRoom bytesOf
-  write-accepted w b h = wrote (passed _ _ _ w ∙ passed _ _ _ b ∙ last-passed _ _ (le-ltb (length out) 20 h))
-
-  -- what an answer tells
-  pub write-inv : writeSample raw out .0 ≡ verdict.Accepted → (tooWide raw ≡ false) × (badReading raw ≡ false) × (20 ≤ length out)
-  unfolding writeSample noRoom
-  write-inv h =
-      let w = accepted _ _ _ (written-accepted _ (bytesOf raw) out h) in
-      let b = accepted _ _ _ (w .1) in
-      let o = accepted _ _ _ (b .1) in
-      (w .0, b .0, ltb-false (length out) 20 (o .0))
+  pub judged-refused : (r : Refusal) (x : Sample) → judgeSample raw ≡ (Refused r, x) → (badReading raw ≡ true) × (r ≡ BadReading)
+  unfolding judgeSample lowest
+  judged-refused r x h = go (badReading raw) (λ i. h i .0)
+    where
+      go : (b : Bool) → lowest ((b, BadReading) ∷ []) ≡ Refused r → (b ≡ true) × (r ≡ BadReading)
+      go true e = (refl, cc)
+      go false e = (cc, cc)

@@ -1,5 +1,5 @@
 -- A judged sample's fields are within their bounds. Assumes nothing.
-use mathlib.Core.Path.{_≡_, sym, subst}
+use mathlib.Core.Path.{_≡_, sym, ap, subst, _∙_}
 use mathlib.Core.Bool.{false}
 use Rattle.hundredths.specs.Reading.{mostSpeed, mostPressure}
 use Rattle.hundredths.specs.declared.Rounding.the-variants.{Up, Down}
@@ -9,8 +9,7 @@ use Rattle.sample.specs.declared.Rear.the-variants.{Present, Lost}
 use Rattle.sample.specs.declared.RawSample.{RawSample}
 use Rattle.sample.specs.Sample.{tooWide, badRear, badReading, rearInHundredths, sampleOf}
 use Rattle.sample.specs.Bounds.{RearBounded, Bounded, JudgedBounded}
-use Rattle.sample.proofs.Steps.{narrow, each-good, laid-narrow}
-use Rattle.sample.proofs.Answers.{laid-out, judged-accepted}
+use Rattle.sample.proofs.Answers.{narrow, each-good, laid-narrow, laid-out, judged-accepted}
 
 rear-bounded : (r : Rear) → badRear r ≡ false → RearBounded (rearInHundredths r)
 rear-bounded (Present x) h = hundredths-most Down mostPressure x h
@@ -32,4 +31,4 @@ pub judged-bounded : JudgedBounded
 unfolding JudgedBounded
 judged-bounded s raw x l h =
     let j = judged-accepted raw x h in
-    subst Bounded (sym (j .1)) (bounded raw (laid-narrow s raw (laid-out s raw l)) (j .0))
+    subst Bounded (sym (j .1)) (bounded raw (ap tooWide (laid-out s raw l .raw-in) ∙ laid-narrow s) (j .0))

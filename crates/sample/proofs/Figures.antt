@@ -3,7 +3,8 @@ use mathlib.Core.Path.{refl}
 use lib.Ieee.{isNan, ofBits, toBits}
 use Rattle.hundredths.specs.Reading.{hundredthsOf, isBad}
 use Rattle.refusal.specs.Lowest.{lowest}
-use Rattle.sample.specs.Sample.{rawIn, bytesOf, wrongLength, wrongMark, badReading, layOut, judgeSample, readSample}
+use Rattle.record.specs.Record.{wrongLength}
+use Rattle.sample.specs.Sample.{rawIn, bytesOf, wrongMark, badReading, layOut, judgeSample, readSample}
 use Rattle.sample.specs.Figures.{Figures}
 
 pub figures : Figures
@@ -11,7 +12,7 @@ unfolding rawIn bytesOf wrongLength wrongMark badReading layOut judgeSample read
 figures = record {
   written = refl;
   read = refl;
-  judgement = refl;
+  judged = refl;
   lost = refl;
   lost-judged = refl;
   lost-not-zero = refl;

@@ -1,6 +1,5 @@
 -- Laws of the sample's reader, judge and writer.
-pub mod Steps
-pub mod FourWords
+pub mod Told
 pub mod Answers
 pub mod RoundTrip
 pub mod Exactly

@@ -4,75 +4,65 @@ use Prim.Native.Nat.{ℕ, _^_, _<_}
 use native.Mathlib.Omega.{arith}
 use mathlib.Core.Bool.{Bool, true, false, not, _&&_, _||_}
 use mathlib.Core.List.{List, [], _∷_, _++_}
-use lib.ListN.{length, take, drop}
-use lib.Dec.{T, eqb, lit<}
-use lib.Ieee.{binary32}
-use lib.Ieee.Bits.{ofBits-toBits, toBits-lt}
-use borrow.Author.Tests.{eqb-true, eqb-false, not-false}
-use Rattle.bits.specs.Fields.{Fit}
-use Rattle.bits.specs.Bytes.{Bytes, num, bytesFrom}
+use lib.ListN.{length, take, drop, getD}
+use lib.Dec.{eqb, lit<}
+use lib.Ieee.{binary32, ofBits, toBits}
+use lib.Ieee.Bits.{ofBits-fits, ofBits-toBits, toBits-lt}
+use borrow.Author.Tests.{eqb-true, eqb-false, le-ltb, not-false}
+use Rattle.bits.specs.Fields.{split}
+use Rattle.bits.specs.Bytes.{num, bytesFrom}
 use Rattle.bits.proofs.Fields.{split-fit}
 use Rattle.bits.proofs.Bytes.{fields-of-bytes, bytes-of-fields}
+use Rattle.bits.proofs.Ranges.{neither}
 use Rattle.hundredths.specs.Reading.{mostSpeed, mostPressure}
 use Rattle.hundredths.proofs.Accepted.{bits-back}
+use Rattle.record.specs.Record.{wrongLength}
+use Rattle.refusal.specs.Lowest.{lowest}
+use Rattle.refusal.specs.Written.{noRoom, written}
 use Rattle.refusal.specs.declared.Verdict.{Verdict}
-use Rattle.refusal.specs.declared.Verdict.the-variants as verdict
-use Rattle.bits.proofs.Ranges.{neither}
-use Rattle.sample.specs.declared.Rear.{Rear}
-use Rattle.sample.specs.declared.Rear.the-variants.{Present, Lost}
-use Rattle.sample.specs.declared.RawSample.{RawSample}
-use Rattle.sample.specs.declared.Answer.the-variants.{Accepted}
-use Rattle.sample.specs.Sample.{widths, mark, presentBit, rearBits, fieldsOf, rearOf, ofFields, rawIn, bytesOf, wrongLength, wrongMark, tooWide, badRear, badReading, readSample}
-use Rattle.sample.specs.RoundTrip.{rearFits, Binary32, WrittenReadsBack, AcceptedWritesBack}
-use Rattle.sample.proofs.Steps.{right-length, narrow, bit-lt, each-good, LaidOut, laid-narrow}
-use Rattle.sample.proofs.Answers.{read-accepted, read-inv, write-accepted, write-inv}
+use Rattle.refusal.specs.declared.Verdict.the-variants.{Accepted}
+use Rattle.refusal.proofs.Order.{accepted, written-accepted}
+use Rattle.sample.specs.declared.Rear.the-variants.{Present}
+use Rattle.sample.specs.Sample.{size, mark, widths, presentBit, rearBits, fieldsOf, lostIn, rearOf, ofFields, rawIn, bytesOf, otherMark, spareSet, lostNotZero, wrongMark, tooWide, badRear, badReading, readSample, writeRules, writeSample}
+use Rattle.sample.specs.RoundTrip.{WrittenReadsBack, AcceptedWritesBack}
+use Rattle.sample.proofs.Answers.{right-length, fits, laid-narrow, each-good, write-is, LaidOut, layout-raw, read-is, read-inv}
 
 -- ---- what is written reads back the same
 
-rear-lt : (r : Rear) → T (rearFits r) → rearBits r < 2 ^ 32
-rear-lt (Present x) h = toBits-lt binary32 x h
-rear-lt Lost h = lit< tt
+-- a reading that is made of bits, whatever their number, has 32 of its own, and these make it again
+module _ (n : ℕ) where
+  made-lt : toBits binary32 (ofBits binary32 n) < 2 ^ 32
+  made-lt = toBits-lt binary32 (ofBits binary32 n) (ofBits-fits binary32 n)
 
-rear-back : (r : Rear) → T (rearFits r) → rearOf (eqb (presentBit r) 0) (rearBits r) ≡ r
-rear-back (Present x) h = ap Present (ofBits-toBits binary32 x h)
-rear-back Lost h = refl
+  made-again : ofBits binary32 (toBits binary32 (ofBits binary32 n)) ≡ ofBits binary32 n
+  made-again = ofBits-toBits binary32 (ofBits binary32 n) (ofBits-fits binary32 n)
 
-rear-marked : (r : Rear) → (eqb (presentBit r) 0 && not (eqb (rearBits r) 0)) ≡ false
-rear-marked (Present x) = refl
-rear-marked Lost = refl
+  -- a rear alike; and when lost, it has no bits
+  rear-made : (lost : Bool)
+      → (rearBits (rearOf lost n) < 2 ^ 32)
+      × (rearOf (eqb (presentBit (rearOf lost n)) 0) (rearBits (rearOf lost n)) ≡ rearOf lost n)
+      × ((eqb (presentBit (rearOf lost n)) 0 && not (eqb (rearBits (rearOf lost n)) 0)) ≡ false)
+  rear-made true = (lit< tt, refl, refl)
+  rear-made false = (made-lt, ap Present made-again, refl)
 
-fields-marked : (raw : RawSample) → wrongMark (fieldsOf raw) ≡ false
-unfolding wrongMark
-fields-marked raw = rear-marked (raw .rear)
-
--- a raw sample that a writer accepts
-module _ (raw : RawSample) (b : Binary32 raw) (w : tooWide raw ≡ false) where
-  fields-fit : Fit widths (fieldsOf raw)
-  fields-fit =
-      let n = narrow raw w in
-      (lit< tt, (n .0, (bit-lt (raw .rear), (lit< tt, (n .1, (toBits-lt binary32 (raw .speed) (b .speed), (toBits-lt binary32 (raw .front) (b .front), (rear-lt (raw .rear) (b .rear), tt))))))))
-
-  fields-back : ofFields (fieldsOf raw) ≡ raw
-  fields-back i = record {
-    time = raw .time;
-    head = raw .head;
-    speed = ofBits-toBits binary32 (raw .speed) (b .speed) i;
-    front = ofBits-toBits binary32 (raw .front) (b .front) i;
-    rear = rear-back (raw .rear) (b .rear) i;
-  }
-
-  bytes-laid-out : LaidOut (bytesOf raw) raw
-  unfolding bytesOf rawIn wrongLength
-  bytes-laid-out =
-      let f = fields-of-bytes 20 widths refl (fieldsOf raw) fields-fit in
-      record { length = refl; mark = ap wrongMark f ∙ fields-marked raw; raw-in = sym (ap ofFields f ∙ fields-back) }
+-- the bytes of what is made of fields stand for it
+bytes-laid-out : (fs : List ℕ) → tooWide (ofFields fs) ≡ false → LaidOut (bytesOf (ofFields fs)) (ofFields fs)
+unfolding bytesOf rawIn wrongLength wrongMark
+bytes-laid-out fs w =
+    let raw = ofFields fs in
+    let r = rear-made (getD fs 7 0) (lostIn fs) in
+    let f = fields-of-bytes size widths refl (fieldsOf raw) (fits raw w (made-lt (getD fs 5 0), (made-lt (getD fs 6 0), (r .0, tt)))) in
+    let again : ofFields (fieldsOf raw) ≡ raw = λ i. record { time = raw .time; head = raw .head; speed = made-again (getD fs 5 0) i; front = made-again (getD fs 6 0) i; rear = r .1 i } in
+    record { length = refl; mark = ap wrongMark f ∙ r .2; raw-in = sym (ap ofFields f ∙ again) }
 
 pub written-reads-back : WrittenReadsBack
-unfolding WrittenReadsBack bytesOf
-written-reads-back raw out b h =
-    let i = write-inv raw out h in
-    ap (λ (p : Verdict × List ℕ). readSample (take 20 (p .1))) (write-accepted raw out (i .0) (i .1) (i .2))
-    ∙ read-accepted (bytesOf raw) raw (bytes-laid-out raw b (i .0)) (i .1)
+unfolding WrittenReadsBack bytesOf writeSample
+written-reads-back fs out h =
+    let raw = ofFields fs in
+    let v = written-accepted (lowest (writeRules raw out)) (bytesOf raw) out h in
+    let w = accepted _ _ _ v in
+    ap (λ (u : Verdict). readSample (take size (written u (bytesOf raw) out .1))) v
+    ∙ read-is (bytesOf raw) raw false (layout-raw (bytesOf raw) raw (bytes-laid-out fs (w .0))) (accepted _ _ _ (w .1) .0)
 
 -- ---- what is accepted would be written with the same bits
 
@@ -83,35 +73,33 @@ same-rear p r hp hr m g = go (eqb p 0) refl m g
   where
     go : (b : Bool) → eqb p 0 ≡ b → (b && not (eqb r 0)) ≡ false → badRear (rearOf b r) ≡ false → (presentBit (rearOf b r) ≡ p) × (rearBits (rearOf b r) ≡ r)
     go true e m g = (sym (eqb-true p 0 e), sym (eqb-true r 0 (not-false (eqb r 0) m)))
-    go false e m g =
-        let n = eqb-false p 0 e in
-        (omega arith, bits-back mostPressure r hr g)
+    go false e m g = let n = eqb-false p 0 e in (omega arith, bits-back mostPressure r hr g)
 
-same-fields : (m t p z h s f r : ℕ) → Fit widths (m ∷ t ∷ p ∷ z ∷ h ∷ s ∷ f ∷ r ∷ []) → wrongMark (m ∷ t ∷ p ∷ z ∷ h ∷ s ∷ f ∷ r ∷ []) ≡ false
-    → badReading (ofFields (m ∷ t ∷ p ∷ z ∷ h ∷ s ∷ f ∷ r ∷ [])) ≡ false
-    → fieldsOf (ofFields (m ∷ t ∷ p ∷ z ∷ h ∷ s ∷ f ∷ r ∷ [])) ≡ m ∷ t ∷ p ∷ z ∷ h ∷ s ∷ f ∷ r ∷ []
+-- the fields of a number that has the mark and good readings
+same-fields : (n : ℕ) → wrongMark (split widths n) ≡ false → badReading (ofFields (split widths n)) ≡ false
+    → fieldsOf (ofFields (split widths n)) ≡ split widths n
 unfolding wrongMark
-same-fields m t p z h s f r k w b =
-    let n = neither (not (eqb m mark) || not (eqb z 0)) (eqb p 0 && not (eqb r 0)) w in
-    let l = neither (not (eqb m mark)) (not (eqb z 0)) (n .0) in
-    let g = each-good (ofFields (m ∷ t ∷ p ∷ z ∷ h ∷ s ∷ f ∷ r ∷ [])) b in
-    let q = same-rear p r (k .1 .1 .0) (k .1 .1 .1 .1 .1 .1 .1 .0) (n .1) (g .2) in
-    let em = eqb-true m mark (not-false (eqb m mark) (l .0)) in
-    let ez = eqb-true z 0 (not-false (eqb z 0) (l .1)) in
-    let es = bits-back mostSpeed s (k .1 .1 .1 .1 .1 .0) (g .0) in
-    let ef = bits-back mostPressure f (k .1 .1 .1 .1 .1 .1 .0) (g .1) in
-    λ i. sym em i ∷ t ∷ q .0 i ∷ sym ez i ∷ h ∷ es i ∷ ef i ∷ q .1 i ∷ []
-
-same-bytes : (s : List ℕ) (raw : RawSample) → Bytes s → LaidOut s raw → badReading raw ≡ false → bytesOf raw ≡ s
-unfolding rawIn bytesOf
-same-bytes s raw b l g =
-    ap bytesOf (l .raw-in)
-    ∙ ap (bytesFrom 20 widths) (same-fields _ _ _ _ _ _ _ _ (split-fit widths (num s)) (l .mark) (ap badReading (sym (l .raw-in)) ∙ g))
-    ∙ bytes-of-fields 20 widths refl s b (right-length s (l .length))
+same-fields n w b =
+    let fs = split widths n in
+    let k = split-fit widths n in
+    let m = neither (otherMark fs || spareSet fs) (lostNotZero fs) w in
+    let l = neither (otherMark fs) (spareSet fs) (m .0) in
+    let g = each-good (ofFields fs) b in
+    let em = eqb-true (getD fs 0 0) mark (not-false (eqb (getD fs 0 0) mark) (l .0)) in
+    let ez = eqb-true (getD fs 3 0) 0 (not-false (eqb (getD fs 3 0) 0) (l .1)) in
+    let es = bits-back mostSpeed (getD fs 5 0) (k .1 .1 .1 .1 .1 .0) (g .0) in
+    let ef = bits-back mostPressure (getD fs 6 0) (k .1 .1 .1 .1 .1 .1 .0) (g .1) in
+    let r = same-rear (getD fs 2 0) (getD fs 7 0) (k .1 .1 .0) (k .1 .1 .1 .1 .1 .1 .1 .0) (m .1) (g .2) in
+    λ i. sym em i ∷ getD fs 1 0 ∷ r .0 i ∷ sym ez i ∷ getD fs 4 0 ∷ es i ∷ ef i ∷ r .1 i ∷ []
 
 pub accepted-writes-back : AcceptedWritesBack
-unfolding AcceptedWritesBack
-accepted-writes-back s out raw b room h =
-    let i = read-inv s raw h in
-    write-accepted raw out (laid-narrow s raw (i .0)) (i .1) room
-    ∙ ap (λ (l : List ℕ). (verdict.Accepted, l ++ drop 20 out)) (same-bytes s raw b (i .0) (i .1))
+unfolding AcceptedWritesBack noRoom bytesOf rawIn
+accepted-writes-back s out b room h =
+    let raw = readSample s .1 in
+    let i = read-inv s raw (λ j. (h j, raw)) in
+    let e = i .0 .raw-in in
+    write-is raw out false false false (ap tooWide e ∙ laid-narrow s) (i .1) (le-ltb (length out) size room)
+    ∙ ap (λ (l : List ℕ). (Accepted, l ++ drop size out))
+    (ap bytesOf e
+    ∙ ap (bytesFrom size widths) (same-fields (num s) (i .0 .mark) (ap badReading (sym e) ∙ i .1))
+    ∙ bytes-of-fields size widths refl s b (right-length s (i .0 .length)))

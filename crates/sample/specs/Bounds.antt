@@ -3,12 +3,11 @@ use mathlib.Core.Path.{_≡_}
 use mathlib.Core.List.{List}
 use Prim.Native.Nat.{ℕ, _*_, _^_, _≤_, _<_}
 use Rattle.hundredths.specs.Reading.{mostSpeed, mostPressure}
+use Rattle.refusal.specs.declared.Verdict.the-variants.{Accepted}
 use Rattle.sample.specs.declared.RawSample.{RawSample}
 use Rattle.sample.specs.declared.RearPressure.{RearPressure}
 use Rattle.sample.specs.declared.RearPressure.the-variants.{Present, Lost}
 use Rattle.sample.specs.declared.Sample.{Sample}
-use Rattle.sample.specs.declared.Layout.the-variants as layout
-use Rattle.sample.specs.declared.Judged.the-variants as judged
 use Rattle.sample.specs.Sample.{layOut, judgeSample}
 
 abbrev pub RearBounded : RearPressure → Type 0
@@ -23,4 +22,4 @@ pub record Bounded (x : Sample) : Type 0 where
   pub rear : RearBounded (x .rear)
 
 unfoldable pub JudgedBounded : Type 0
-JudgedBounded = (s : List ℕ) (raw : RawSample) (x : Sample) → layOut s ≡ layout.Raw raw → judgeSample raw ≡ judged.Accepted x → Bounded x
+JudgedBounded = (s : List ℕ) (raw : RawSample) (x : Sample) → layOut s ≡ (Accepted, raw) → judgeSample raw ≡ (Accepted, x) → Bounded x

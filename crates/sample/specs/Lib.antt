@@ -1,6 +1,5 @@
 -- The sample's record.
 pub mod Sample
-pub mod Steps
 pub mod RoundTrip
 pub mod Exactly
 pub mod Bounds

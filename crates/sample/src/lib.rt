@@ -1,16 +1,14 @@
 // The sample: a record of 20 bytes. Its layout is read first, the readings as raw floats, and the readings are judged after that.
 use hundredths::Reading;
 use refusal::Refusal;
+use refusal::Step;
 use refusal::Verdict;
 ghost use mathlib.Core.Path.{_≡_};
-ghost use mathlib.Core.Bool.{false};
-ghost use mathlib.Core.List.{_++_};
-ghost use Prim.Native.Nat.{_≤_};
-ghost use lib.ListN.{length, drop};
-ghost use Rattle.sample.specs.Sample.{rearOf, presentBit, rearBits, ofFields, bytesOf, wrongMark, tooWide, layOut, judgeSample, readSample, writeSample};
-ghost use Rattle.sample.specs.Steps.{wordsOf, fieldsFrom, unless, judgeRear, firstWord};
-
-const MARK: u64 = 0x53;
+ghost use mathlib.Core.List.{[], _∷_};
+ghost use Rattle.bits.specs.Fields.{Fit};
+ghost use Rattle.bits.specs.Places.{fieldsFrom, putFrom};
+ghost use Rattle.refusal.specs.Number.{told};
+ghost use Rattle.sample.specs.Sample.{leadWidths, readingWidths, widths, presentBit, rearBits, leadOf, readingsOf, fieldsOf, rearOf, ofFields, wrongMark, refusedWith, answerTold, layOut, readSample, badJudged, judgedTold, judgeSample, writeSample};
 
 pub enum Rear {
     // psi
@@ -31,10 +29,18 @@ pub struct RawSample {
     pub rear: Rear,
 }
 
-// What laying out a record answers. The raw sample's readings are not judged yet: any may be a NaN.
-pub enum Layout {
-    Raw(RawSample),
-    Refused(Refusal),
+impl RawSample {
+    // Bytes of the record.
+    pub const SIZE: usize = 20;
+
+    pub const MARK: u64 = 0x53;
+}
+
+// What laying out and reading a record answer; where it is refused, the raw sample is all zero and its rear lost.
+// A raw sample that is only laid out has readings that are not judged: any may be a NaN.
+pub struct Answer {
+    pub verdict: Verdict,
+    pub raw: RawSample,
 }
 
 pub enum RearPressure {
@@ -51,47 +57,25 @@ pub struct Sample {
     pub rear: RearPressure,
 }
 
-// What judging the readings answers.
-pub enum Judged {
-    Accepted(Sample),
-    Refused(Refusal),
+// What judging the readings answers; where one is refused, the sample is all zero and its rear lost.
+pub struct Judged {
+    pub verdict: Verdict,
+    pub sample: Sample,
 }
 
-// What reading a sample answers.
-pub enum Answer {
-    Accepted(RawSample),
-    Refused(Refusal),
-}
-
-// The 160 bits of a record: what stands before the readings, and each reading.
-enum Words {
-    Four(u64, u32, u32, u32),
-    Wrong,
-}
-
-// What a step of laying out finds: the raw sample to go on with, or nothing.
-enum Step {
-    On(RawSample),
-    Off,
-}
-
-// What judging the rear finds.
-enum RearStep {
-    On(RearPressure),
-    Off,
-}
-
-fn words_of(s: &[u8]) -> Words
-    ensures { λ r. ⌜ r ≡ wordsOf (now (s .entry)) ⌝ }
+fn refused(r: Refusal) -> Answer
+    ensures { λ a. ⌜ (a .verdict, a .raw) ≡ refusedWith r ⌝ }
 {
-    if s.len() != 20 {
-        return Words::Wrong;
+    Answer {
+        verdict: Verdict::Refused(r),
+        raw: RawSample {
+            time: 0,
+            head: 0,
+            speed: 0.0,
+            front: 0.0,
+            rear: Rear::Lost,
+        },
     }
-    let first = bits::word(&s[0..8]);
-    let speed = bits::word(&s[8..12]);
-    let front = bits::word(&s[12..16]);
-    let rear = bits::word(&s[16..20]);
-    Words::Four(first, speed as u32, front as u32, rear as u32)
 }
 
 fn rear_of(lost: bool, bits: u32) -> Rear
@@ -104,92 +88,112 @@ fn rear_of(lost: bool, bits: u32) -> Rear
     }
 }
 
-// The raw sample of four words, if the mark is right, no spare bit is set and a lost rear has no bits.
-fn marked(first: u64, speed: u32, front: u32, rear: u32) -> Step
-    ensures { λ r. ⌜ r ≡ unless (wrongMark (fieldsFrom first speed front rear)) (ofFields (fieldsFrom first speed front rear)) ⌝ }
+// The raw sample of a record's bits, whatever the mark.
+fn of_bytes(s: &[u8]) -> RawSample
+    ensures { λ r. ⌜ r ≡ ofFields (fieldsFrom 0 widths (now (s .entry))) ⌝ }
 {
-    let mark = first / 0x100_0000_0000_0000 % 0x100;
-    let lost = first / 0x8000_0000 % 2 == 0;
-    let spare = first / 0x100_0000 % 0x80;
-    if (mark != MARK) | (spare != 0) | (lost & (rear != 0)) {
-        return Step::Off;
-    }
-    let speed = hundredths::float_of(speed);
-    let front = hundredths::float_of(front);
-    let rear = rear_of(lost, rear);
-    Step::On(RawSample {
-        time: (first / 0x1_0000_0000 % 0x100_0000) as u32,
-        head: (first % 0x100_0000) as u32,
+    let speed = hundredths::float_of(bits::field(s, 64, 32) as u32);
+    let front = hundredths::float_of(bits::field(s, 96, 32) as u32);
+    let rear = rear_of(bits::field(s, 32, 1) == 0, bits::field(s, 128, 32) as u32);
+    RawSample {
+        time: bits::field(s, 8, 24) as u32,
+        head: bits::field(s, 40, 24) as u32,
         speed,
         front,
         rear,
-    })
+    }
+}
+
+// A wrong mark, a spare bit set, or a lost rear with bits.
+fn wrong_mark(s: &[u8]) -> bool
+    ensures { λ r. ⌜ r ≡ wrongMark (fieldsFrom 0 widths (now (s .entry))) ⌝ }
+{
+    let mark = bits::field(s, 0, 8);
+    let lost = bits::field(s, 32, 1) == 0;
+    let spare = bits::field(s, 33, 7);
+    let rear = bits::field(s, 128, 32);
+    (mark != RawSample::MARK) | (spare != 0) | (lost & (rear != 0))
 }
 
 // The record's layout alone: the readings may be anything.
-pub fn lay_out(s: &[u8]) -> Layout
-    ensures { λ r. ⌜ r ≡ layOut (now (s .entry)) ⌝ }
+pub fn lay_out(s: &[u8]) -> Answer
+    ensures { λ r. ⌜ answerTold (r .verdict, r .raw) ≡ answerTold (layOut (now (s .entry))) ⌝ }
 {
-    let Words::Four(first, speed, front, rear) = words_of(s) else {
-        return Layout::Refused(Refusal::WrongLength);
+    let Step::On = refusal::unless(s.len() != RawSample::SIZE) else {
+        return refused(Refusal::WrongLength);
     };
-    let Step::On(raw) = marked(first, speed, front, rear) else {
-        return Layout::Refused(Refusal::WrongMark);
+    let Step::On = refusal::unless(wrong_mark(s)) else {
+        return refused(Refusal::WrongMark);
     };
-    Layout::Raw(raw)
-}
-
-// A lost rear is not judged.
-fn judge_rear(rear: Rear) -> RearStep
-    ensures { λ r. ⌜ r ≡ judgeRear rear ⌝ }
-{
-    match rear {
-        Rear::Present(x) => {
-            let Reading::Hundredths(pressure) = hundredths::pressure(x) else {
-                return RearStep::Off;
-            };
-            RearStep::On(RearPressure::Present(pressure))
-        }
-        Rear::Lost => RearStep::On(RearPressure::Lost),
+    let raw = of_bytes(s);
+    Answer {
+        verdict: Verdict::Accepted,
+        raw,
     }
 }
 
-// The readings of a raw sample.
+fn bad_reading() -> Judged
+    ensures { λ a. ⌜ (a .verdict, a .sample) ≡ badJudged ⌝ }
+{
+    Judged {
+        verdict: Verdict::Refused(Refusal::BadReading),
+        sample: Sample {
+            time: 0,
+            head: 0,
+            speed: 0,
+            front: 0,
+            rear: RearPressure::Lost,
+        },
+    }
+}
+
+// The readings of a raw sample; a lost rear is not judged.
 pub fn judge(raw: RawSample) -> Judged
-    ensures { λ r. ⌜ r ≡ judgeSample raw ⌝ }
+    ensures { λ r. ⌜ judgedTold (r .verdict, r .sample) ≡ judgedTold (judgeSample raw) ⌝ }
 {
     let Reading::Hundredths(speed) = hundredths::speed(raw.speed) else {
-        return Judged::Refused(Refusal::BadReading);
+        return bad_reading();
     };
     let Reading::Hundredths(front) = hundredths::pressure(raw.front) else {
-        return Judged::Refused(Refusal::BadReading);
+        return bad_reading();
     };
     let rear = raw.rear;
-    let RearStep::On(rear) = judge_rear(rear) else {
-        return Judged::Refused(Refusal::BadReading);
+    let rear = match rear {
+        Rear::Present(x) => {
+            let Reading::Hundredths(pressure) = hundredths::pressure(x) else {
+                return bad_reading();
+            };
+            RearPressure::Present(pressure)
+        }
+        Rear::Lost => RearPressure::Lost,
     };
-    Judged::Accepted(Sample {
-        time: raw.time,
-        head: raw.head,
-        speed,
-        front,
-        rear,
-    })
+    Judged {
+        verdict: Verdict::Accepted,
+        sample: Sample {
+            time: raw.time,
+            head: raw.head,
+            speed,
+            front,
+            rear,
+        },
+    }
 }
 
 pub fn read(s: &[u8]) -> Answer
-    ensures { λ r. ⌜ r ≡ readSample (now (s .entry)) ⌝ }
+    ensures { λ r. ⌜ answerTold (r .verdict, r .raw) ≡ answerTold (readSample (now (s .entry))) ⌝ }
 {
-    let Words::Four(first, speed, front, rear) = words_of(s) else {
-        return Answer::Refused(Refusal::WrongLength);
+    let laid = lay_out(s);
+    let verdict = laid.verdict;
+    let Verdict::Accepted = verdict else {
+        return laid;
     };
-    let Step::On(raw) = marked(first, speed, front, rear) else {
-        return Answer::Refused(Refusal::WrongMark);
+    let raw = laid.raw;
+    let judged = judge(raw);
+    let verdict = judged.verdict;
+    let Verdict::Accepted = verdict else {
+        return refused(Refusal::BadReading);
     };
-    let Judged::Accepted(_) = judge(raw) else {
-        return Answer::Refused(Refusal::BadReading);
-    };
-    Answer::Accepted(raw)
+    laid
 }
 
 fn present_bit(rear: Rear) -> u64
@@ -210,49 +214,52 @@ fn rear_bits(rear: Rear) -> u32
     }
 }
 
-// The record's bits before the readings.
-fn first_word(raw: RawSample) -> u64
-    requires { ⌜ tooWide raw ≡ false ⌝ }
-    ensures { λ r. ⌜ r ≡ firstWord raw ⌝ }
+// The record's first 64 bits: what stands before the readings.
+fn put_lead(time: u32, present: u64, head: u32, out: &mut [u8])
+    ensures { λ _. ⌜ now (out .exit) ≡ putFrom 0 leadWidths (leadOf time present head) (now (out .entry)) ⌝ }
+{
+    let widths = [8, 24, 1, 7, 24];
+    let values = [RawSample::MARK, time as u64, present, 0, head as u64];
+    bits::put_fields(out, 0, &widths, &values);
+}
+
+// The last 96: the bits of the readings.
+fn put_readings(speed: u32, front: u32, rear: u32, out: &mut [u8])
+    ensures { λ _. ⌜ now (out .exit) ≡ putFrom 64 readingWidths (speed ∷ front ∷ rear ∷ []) (now (out .entry)) ⌝ }
+{
+    let widths = [32, 32, 32];
+    let values = [speed as u64, front as u64, rear as u64];
+    bits::put_fields(out, 64, &widths, &values);
+}
+
+// Puts the fields in their places; the readings' bits fit their 32.
+fn put(raw: RawSample, out: &mut [u8])
+    ensures { λ _. ⌜ (now (out .exit) ≡ putFrom 0 widths (fieldsOf raw) (now (out .entry))) × Fit readingWidths (readingsOf raw) ⌝ }
 {
     let rear = raw.rear;
     let present = present_bit(rear);
-    MARK * 0x100_0000_0000_0000
-        + raw.time as u64 * 0x1_0000_0000
-        + present * 0x8000_0000
-        + raw.head as u64
-}
-
-// Puts the record over the first 20 bytes of `out`.
-fn put(raw: RawSample, out: &mut [u8])
-    requires fitting { ⌜ tooWide raw ≡ false ⌝ }
-    requires room { ⌜ 20 ≤ length (now out) ⌝ }
-    ensures { λ _. ⌜ now (out .exit) ≡ bytesOf raw ++ drop 20 (now (out .entry)) ⌝ }
-{
-    let rear = raw.rear;
-    let first = first_word(raw);
     let speed = hundredths::bits_of(raw.speed);
     let front = hundredths::bits_of(raw.front);
     let rear = rear_bits(rear);
-    bits::put_word(&mut out[0..8], first);
-    bits::put_word(&mut out[8..12], speed as u64);
-    bits::put_word(&mut out[12..16], front as u64);
-    bits::put_word(&mut out[16..20], rear as u64);
+    put_lead(raw.time, present, raw.head, out);
+    put_readings(speed, front, rear, out);
 }
 
 // Writes the record to the first 20 bytes of `out`.
 pub fn write(raw: RawSample, out: &mut [u8]) -> Verdict
-    ensures { λ r. ⌜ (r, now (out .exit)) ≡ writeSample raw (now (out .entry)) ⌝ }
+    ensures { λ r. ⌜ told (r, now (out .exit)) ≡ told (writeSample raw (now (out .entry))) ⌝ }
 {
-    if (raw.time >= 0x100_0000) | (raw.head >= 0x100_0000) {
+    let Step::On = refusal::unless((raw.time >= 0x100_0000) | (raw.head >= 0x100_0000)) else {
         return Verdict::Refused(Refusal::OutOfRange);
-    }
-    let Judged::Accepted(_) = judge(raw) else {
+    };
+    let judged = judge(raw);
+    let verdict = judged.verdict;
+    let Verdict::Accepted = verdict else {
         return Verdict::Refused(Refusal::BadReading);
     };
-    if out.len() < 20 {
+    let Step::On = refusal::unless(out.len() < RawSample::SIZE) else {
         return Verdict::Refused(Refusal::NoRoom);
-    }
+    };
     put(raw, out);
     Verdict::Accepted
 }

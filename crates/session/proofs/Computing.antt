@@ -2,15 +2,18 @@
 use lib.Ieee.{ofBits, isNan}
 use Rattle.refusal.specs.Lowest.{lowest}
 use Rattle.refusal.specs.Written.{noRoom}
+use Rattle.record.specs.Record.{wrongLength}
 use Rattle.whole.specs.Floor.{floorDiv}
 use Rattle.whole.specs.Ceiling.{ceilDiv}
 use Rattle.whole.specs.Root.{digits, rootOf}
 use Rattle.hundredths.specs.Reading as reading
+use Rattle.table.proofs.Computing as table
 use Rattle.consist.specs.Consist as consist
 use Rattle.profile.specs.Profile as profile
 use Rattle.targets.specs.Targets as targets
 use Rattle.sample.specs.Sample as sample
 use Rattle.decision.specs.Decision as decision
+use Rattle.brake.specs.Brake.{isOpened}
 use Rattle.brake.specs.Readings as readings
 use Rattle.brake.specs.Rules as rules
 use Rattle.brake.specs.Sound as sound
@@ -24,5 +27,5 @@ use Rattle.session.specs.Open.{openOf}
 use Rattle.session.specs.Sample.{wrongTime, notCovered, predictionOf, calledOf, causeAfter, sampleCall}
 
 unfoldable pub computing : Unit {0}
-unfolding ofBits lowest noRoom floorDiv ceilDiv digits rootOf isOpen openOf wrongTime notCovered predictionOf calledOf causeAfter sampleCall reading.hundredthsOf reading.isBad consist.consistIn consist.wrongLength consist.inRange consist.tooLight consist.isSound consist.readConsist profile.counted profile.inRange profile.good profile.ends profile.kept profile.recordAt profile.segmentAt profile.spareZero profile.keptIn targets.counted targets.inRange targets.good targets.kept targets.recordAt targets.targetAt targets.keptIn sample.rawIn sample.wrongLength sample.wrongMark sample.badReading decision.decisionIn decision.bytesOf decision.wrongLength decision.wrongMark decision.outOfRange decision.readDecision readings.elapsedOf readings.rateOf readings.rearOf readings.nominalOf readings.readingOf readings.application readings.release readings.emergency rules.startEmergency rules.startService rules.startApplying rules.startCharging rules.fallInService rules.fallInEmergency rules.inCharged rules.recharged rules.inCharging rules.fallOrHold rules.inApplyingService rules.inHoldingService rules.inApplyingEmergency rules.inHoldingEmergency rules.updateOf sound.isSound track.layOf track.feet track.gradeFeet track.curveFeet track.gradeUnder track.curveUnder curve.dropAt curve.cylinderAt curve.forceAt curve.penaltyCurve step.opposing step.loss step.stepTime step.stepOf walk.tooFast walk.walkTo walk.placeFor walk.predictOf judge.isJudged judge.offsetFor judge.isCalled judge.firstFrom judge.causeOf isNan
+unfolding ofBits lowest noRoom floorDiv ceilDiv digits rootOf isOpen openOf wrongTime notCovered predictionOf calledOf causeAfter sampleCall reading.hundredthsOf reading.isBad consist.consistIn consist.inRange consist.tooLight consist.isSound consist.readConsist table.computing profile.inRange profile.ends targets.inRange sample.rawIn sample.layOut sample.judgeSample wrongLength sample.wrongMark sample.badReading decision.decisionIn decision.bytesOf decision.wrongMark decision.outOfRange decision.readDecision readings.elapsedOf readings.rateOf readings.rearOf readings.nominalOf readings.readingOf readings.application readings.release readings.emergency rules.startEmergency rules.startService rules.startApplying rules.startCharging rules.fallInService rules.fallInEmergency rules.inCharged rules.recharged rules.inCharging rules.fallOrHold rules.inApplyingService rules.inHoldingService rules.inApplyingEmergency rules.inHoldingEmergency rules.updateOf sound.isSound isOpened track.layOf track.feet track.gradeFeet track.curveFeet track.gradeUnder track.curveUnder curve.dropAt curve.cylinderAt curve.forceAt curve.penaltyCurve step.opposing step.loss step.stepTime step.stepOf walk.tooFast walk.walkTo walk.placeFor walk.predictOf judge.isJudged judge.offsetFor judge.isCalled judge.firstFrom judge.causeOf isNan
 computing = tt

@@ -1,55 +1,48 @@
 -- Refusals exactly on their conditions, an open session stays one, the penalty stands. Assumes nothing.
 use mathlib.Core.Path.{_≡_, refl, sym, ap, _∙_, subst}
-use mathlib.Core.Bool.{true}
+use mathlib.Core.Bool.{Bool, true, false, _||_}
 use mathlib.Core.List.{List, [], _∷_}
 use Prim.Native.Nat.{ℕ, _≤_, _<_}
 use native.Mathlib.Omega.{arith}
 use borrow.Author.Tests.{le-leb, ne-eqb}
 use Rattle.refusal.specs.Lowest.{lowest}
+use Rattle.refusal.specs.Steps.{kept}
 use Rattle.refusal.specs.Written.{written}
 use Rattle.refusal.specs.Exactly.{Exactly}
 use Rattle.refusal.specs.declared.Refusal.{Refusal}
 use Rattle.refusal.specs.declared.Verdict.{Verdict}
 use Rattle.refusal.specs.declared.Verdict.the-variants.{Accepted, Refused}
 use Rattle.refusal.proofs.Exactly.{exactly}
-use Rattle.refusal.proofs.Order.{append-accepted}
+use Rattle.refusal.proofs.Order.{accepted, append-accepted}
 use Rattle.consist.specs.declared.Consist.{Consist}
-use Rattle.consist.specs.declared.Answer.{Answer}
-use Rattle.consist.specs.declared.Answer.the-variants as consist
-use Rattle.consist.specs.Consist.{readConsist}
-use Rattle.consist.specs.Consist as consist-specs
+use Rattle.consist.specs.Consist as consist
+use Rattle.consist.specs.Consist.{consistIn, none, readConsist}
 use Rattle.consist.specs.Exactly.{ReadExactly}
 use Rattle.consist.proofs.Exactly.{read-exactly}
-use Rattle.consist.proofs.RoundTrip.{read-inv}
 use Rattle.consist.proofs.Sound as consist-sound
-use Rattle.brake.specs.Brake.{opened}
+use Rattle.targets.specs.Targets as targets
+use Rattle.sample.specs.declared.Sample.{Sample}
+use Rattle.brake.specs.Rules.{updateOf}
 use Rattle.brake.specs.Sound as brake
 use Rattle.brake.proofs.Sound.{opened-sound}
 use Rattle.brake.proofs.Tested as brake-tested
 use Rattle.session.specs.declared.Session.{Session}
-use Rattle.session.specs.Session.{isOpen}
-use Rattle.session.specs.Open.{openedBy, openOf}
-use Rattle.session.specs.Sample.{sampleIn, causeAfter, sessionAfter, rules, kept, sampleCall}
+use Rattle.session.specs.Session.{isFresh, isOpen}
+use Rattle.session.specs.Open.{openedWith, openOf}
+use Rattle.session.specs.Sample.{sampleIn, brakeAfter, causeAfter, sessionAfter, rules, sampleCall}
 use Rattle.session.specs.Steps.{rulesBefore}
-use Rattle.session.specs.Laws.{OpenExactly, SampleExactly, OpensOpen, StaysOpen, afterSamples, CauseStands}
+use Rattle.session.specs.Laws.{OpenExactly, SampleExactly, OpensOpen, StaysOpen, FreshOpening, afterSamples, CauseStands}
 use Rattle.session.proofs.Accepted.{predictable}
-use Rattle.session.proofs.Admitted.{is-opened, ready, cause-within}
+use Rattle.session.proofs.Admitted.{opened, is-opened, ready, cause-within}
 
 -- ---- exactly
-
-opened-refused : (x : Session) (a : Answer) (r : Refusal) → openedBy x a .verdict ≡ Refused r → a ≡ consist.Refused r
-opened-refused x (consist.Accepted c) r h = absurd (let z : _≡_ {A = ℕ} 0 1 = cc in omega arith)
-opened-refused x (consist.Refused s) r h = cc
 
 pub open-exactly : OpenExactly
 unfolding OpenExactly openOf ReadExactly
 open-exactly x s = record {
-  refused = λ r. (λ h. read-exactly s r .0 (opened-refused x (readConsist s) r h), λ h. ap (λ (a : Answer). openedBy x a .verdict) (read-exactly s r .1 h));
-  kept = λ r h. ap (λ (a : Answer). openedBy x a .session) (opened-refused x (readConsist s) r h);
+  refused = read-exactly s .refused;
+  kept = λ r h. ap (λ (v : Verdict). kept v (openedWith (readConsist s .1)) x) h;
 }
-
-kept-refused : (v : Verdict) (old new : Session) (r : Refusal) → v ≡ Refused r → kept v old new ≡ old
-kept-refused v old new r h = ap (λ (w : Verdict). kept w old new) h
 
 untouched : (v : Verdict) (bytes out : List ℕ) (r : Refusal) → v ≡ Refused r → written v bytes out .1 ≡ out
 untouched v bytes out r h = ap (λ (w : Verdict). written w bytes out .1) h
@@ -58,43 +51,55 @@ pub sample-exactly : SampleExactly
 unfolding SampleExactly sampleCall Exactly
 sample-exactly x s p t out = record {
   refused = exactly (rules x s p t out) .refused;
-  kept = λ r h. kept-refused _ x _ r h;
+  kept = λ r h. ap (λ (v : Verdict). kept v (sessionAfter x (sampleIn s) p t) x) h;
   untouched = λ r h. untouched _ _ out r h;
 }
 
 -- ---- open
 
-is-open : (x : Session) → x .opened ≡ true → consist-specs.isSound (x .consist) ≡ true → brake.Sound (x .consist) (x .brake) → x .cause ≤ 8 → isOpen x ≡ true
-unfolding isOpen
-is-open x o c b k = rw (o, c, brake-tested.sound-is (x .consist) (x .brake) .1 b, le-leb (x .cause) 8 k)
+module _ (x : Session) where
+  is-open : x .opened ≡ true → consist.isSound (x .consist) ≡ true → brake.Sound (x .consist) (x .brake) → x .cause ≤ targets.most
+      → (x .brake .sampled || isFresh x) ≡ true → isOpen x ≡ true
+  unfolding isOpen
+  is-open o c b k f =
+      rw (o, c, brake-tested.sound-is (x .consist) (x .brake) .1 b, le-leb (x .cause) targets.most k, f)
 
-opened-accepted : (x : Session) (a : Answer) → openedBy x a .verdict ≡ Accepted → ((c : Consist) → a ≡ consist.Accepted c → isOpen (openedBy x (consist.Accepted c) .session) ≡ true) → isOpen (openedBy x a .session) ≡ true
-opened-accepted x (consist.Accepted c) h k = k c refl
-opened-accepted x (consist.Refused r) h k = absurd (let z : _≡_ {A = ℕ} 0 1 = cc in omega arith)
+-- an opening with a consist that is not refused
+opened-open : (c : Consist) → consist.outOfRange c ≡ false → consist.tooLight c ≡ false → isOpen (openedWith c) ≡ true
+opened-open c r w =
+    is-open (openedWith c) refl (consist-sound.sound-is c r w) (opened-sound c (consist-sound.sound c r w)) (omega arith) (rw (brake-tested.opened-passes c))
 
 pub opens-open : OpensOpen
-unfolding OpensOpen openOf
+unfolding OpensOpen openOf readConsist
 opens-open x s h =
-    opened-accepted x (readConsist s) h
-    (λ c e.
-    let i = read-inv s c e in
-    is-open _ refl (consist-sound.sound-is c (i .1) (i .2)) (opened-sound c (consist-sound.sound c (i .1) (i .2))) (omega arith))
+    let c = accepted _ _ _ (accepted _ _ _ h .1) in
+    ap (λ (v : Verdict). isOpen (kept v (openedWith (kept v (consistIn s) none)) x)) h ∙ opened-open (consistIn s) (c .0) (accepted _ _ _ (c .1) .0)
 
-kept-accepted : (v : Verdict) (old new : Session) → v ≡ Accepted → kept v old new ≡ new
-kept-accepted v old new h = ap (λ (w : Verdict). kept w old new) h
+-- an update has taken a sample
+sampled : (x : Session) (m : Sample) → brakeAfter x m .sampled ≡ true
+unfolding updateOf
+sampled x m = refl
 
 pub stays-open : StaysOpen
 unfolding StaysOpen sampleCall
 stays-open x s p t out h =
+    let m = sampleIn s in
     let b = append-accepted (rulesBefore x s p t) _ h in
     let o = is-opened x s p t b in
-    let r = predictable x (sampleIn s) p (ready x s p t b) in
-    ap isOpen (kept-accepted _ x _ h)
-    ∙ is-open (sessionAfter x (sampleIn s) p t) refl (o .tested) (r .brake) (cause-within x (sampleIn s) p t (o .cause))
+    let r = predictable x m p (ready x s p t b) in
+    ap (λ (v : Verdict). isOpen (kept v (sessionAfter x m p t) x)) h
+    ∙ is-open (sessionAfter x m p t) refl (o .tested) (r .brake) (cause-within x m p t (o .cause)) (ap (λ (a : Bool). a || isFresh (sessionAfter x m p t)) (sampled x m))
+
+pub fresh-opening : FreshOpening
+unfolding FreshOpening
+fresh-opening x h e =
+    let o = opened x h in
+    let f = o .fresh e in
+    rw (o .opened, f .0, f .1)
 
 -- ---- the penalty
 
-cause-kept : (x : Session) (v : Verdict) (s p t : List ℕ) → 0 < x .cause → kept v x (sessionAfter x (sampleIn s) p t) .cause ≡ x .cause
+cause-kept : (x : Session) (v : Verdict) (s p t : List ℕ) → 0 < x .cause → kept v (sessionAfter x (sampleIn s) p t) x .cause ≡ x .cause
 unfolding causeAfter
 cause-kept x Accepted s p t h =
     let n : x .cause ≡ 0 → ⊥ = λ e. omega arith in

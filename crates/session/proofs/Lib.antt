@@ -1,4 +1,5 @@
 -- Laws of the session.
+pub mod Told
 pub mod Rules
 pub mod Accepted
 pub mod Admitted

@@ -1,115 +1,80 @@
--- What is answered before the walk, one rule after the other. Assumes nothing.
-use mathlib.Core.Path.{_≡_, refl, ap, _∙_}
+-- What is answered before the walk, one step after the other: what a step refuses is handed on, whatever comes after it. Assumes nothing.
+use mathlib.Core.Path.{_≡_, refl, sym, ap, _∙_}
 use mathlib.Core.Bool.{Bool, true, false, not}
-use mathlib.Core.List.{List}
+use mathlib.Core.List.{List, [], _∷_, _++_}
 use Prim.Native.Nat.{ℕ}
-use native.Mathlib.Omega.{arith}
-use Rattle.refusal.specs.Lowest.{lowest}
+use lib.Dec.{T}
+use Rattle.refusal.specs.Lowest.{Rule, lowest}
 use Rattle.refusal.specs.declared.Refusal.{Refusal}
-use Rattle.refusal.specs.declared.Refusal.the-variants.{BrokenProfile, BrokenTargets, BadReading, WrongTime, NotCovered, NoSession}
+use Rattle.refusal.specs.declared.Refusal.the-variants.{NoSession, WrongTime, NotCovered}
 use Rattle.refusal.specs.declared.Verdict.{Verdict}
-use Rattle.refusal.specs.declared.Verdict.the-variants as verdict
-use Rattle.refusal.proofs.Order.{given, passed, last-passed, append-given, append-passed}
+use Rattle.refusal.specs.declared.Verdict.the-variants.{Accepted, Refused}
+use Rattle.refusal.proofs.Order.{before, given, passed, append-given, append-passed}
+use Rattle.refusal.proofs.Steps.{firstOf, in-order}
+use Rattle.table.specs.Table.{judge}
 use Rattle.profile.specs.Profile as profile
-use Rattle.profile.specs.declared.Judged.the-variants as profile-judged
-use Rattle.profile.proofs.Answers as profile-answers
-use Rattle.profile.proofs.Sound as profile-sound
 use Rattle.targets.specs.Targets as targets
-use Rattle.targets.specs.declared.Judged.the-variants as targets-judged
-use Rattle.targets.proofs.Answers as targets-answers
-use Rattle.targets.proofs.Sound as targets-sound
 use Rattle.sample.specs.declared.RawSample.{RawSample}
-use Rattle.sample.specs.declared.Layout.the-variants as layout
 use Rattle.sample.specs.Sample as sample
 use Rattle.session.specs.declared.Session.{Session}
-use Rattle.session.specs.declared.Entry.the-variants.{Admitted, Refused}
 use Rattle.session.specs.Session.{isOpen}
 use Rattle.session.specs.Sample.{sampleIn, wrongTime, notCovered}
-use Rattle.session.specs.Steps.{rulesRaw, entry, admitRaw, admitOf}
+use Rattle.session.specs.Steps.{rulesRaw, noEntry, admitRaw, admitOf}
 
--- ---- what the judges of the profile and the targets tell
+-- a step's verdict, or what comes after it
+abbrev pub orElse : Verdict → Verdict → Verdict
+orElse Accepted v = v
+orElse (Refused r) v = Refused r
 
-pub profile-refused : (p : List ℕ) (r : Refusal) → profile.judgeProfile p ≡ profile-judged.Refused r → profile.brokenIn p ≡ true
-profile-refused p r h = go (profile.keptIn p) refl
-  where
-    go : (b : Bool) → profile.keptIn p ≡ b → not b ≡ true
-    go true e = absurd (let k = profile-answers.judge-kept p e in let z : _≡_ {A = ℕ} 0 1 = cc in omega arith)
-    go false e = refl
+step : (xs ys : List Rule) (v : Verdict) → T (before xs ys) → lowest xs ≡ v → lowest (xs ++ ys) ≡ orElse v (lowest ys)
+step xs ys Accepted t h = append-passed xs ys h
+step xs ys (Refused r) t h = append-given xs ys r t h
 
-pub profile-counted : (p : List ℕ) (n : ℕ) → profile.judgeProfile p ≡ profile-judged.Records n → profile.brokenIn p ≡ false
-profile-counted p n h = ap not (profile-sound.judged-kept p n h .0)
+profile-verdict : (p : List ℕ) → profile.judgeProfile p .0 ≡ lowest (profile.judgeRules p)
+unfolding judge
+profile-verdict p = refl
 
-pub targets-refused : (t : List ℕ) (r : Refusal) → targets.judgeTargets t ≡ targets-judged.Refused r → targets.brokenIn t ≡ true
-targets-refused t r h = go (targets.keptIn t) refl
-  where
-    go : (b : Bool) → targets.keptIn t ≡ b → not b ≡ true
-    go true e = absurd (let k = targets-answers.judge-kept t e in let z : _≡_ {A = ℕ} 0 1 = cc in omega arith)
-    go false e = refl
-
-pub targets-counted : (t : List ℕ) (n : ℕ) → targets.judgeTargets t ≡ targets-judged.Records n → targets.brokenIn t ≡ false
-targets-counted t n h = ap not (targets-sound.judged-kept t n h .0)
+targets-verdict : (t : List ℕ) → targets.judgeTargets t .0 ≡ lowest (targets.judgeRules t)
+unfolding judge
+targets-verdict t = refl
 
 -- ---- of a sample that is laid out
 
-module _ (x : Session) (raw : RawSample) (p t : List ℕ) where
-  said : {v w : Verdict} → v ≡ w → entry v (sample.sampleOf raw) ≡ entry w (sample.sampleOf raw)
-  said h = ap (λ (v : Verdict). entry v (sample.sampleOf raw)) h
-
-  pub raw-profile : profile.brokenIn p ≡ true → admitRaw x raw p t ≡ Refused BrokenProfile
-  unfolding admitRaw
-  raw-profile h = said (given _ _ _ tt h)
-
-  pub raw-targets : profile.brokenIn p ≡ false → targets.brokenIn t ≡ true → admitRaw x raw p t ≡ Refused BrokenTargets
-  unfolding admitRaw
-  raw-targets a h = said (passed _ _ _ a ∙ given _ _ _ tt h)
-
-  pub raw-reading : profile.brokenIn p ≡ false → targets.brokenIn t ≡ false → sample.badReading raw ≡ true → admitRaw x raw p t ≡ Refused BadReading
-  unfolding admitRaw
-  raw-reading a b h = said (passed _ _ _ a ∙ passed _ _ _ b ∙ given _ _ _ tt h)
-
-  -- the three before are passed
-  module _ (a : profile.brokenIn p ≡ false) (b : targets.brokenIn t ≡ false) (d : sample.badReading raw ≡ false) where
-    pub raw-time : wrongTime x (sample.sampleOf raw) ≡ true → admitRaw x raw p t ≡ Refused WrongTime
-    unfolding admitRaw
-    raw-time h = said (passed _ _ _ a ∙ passed _ _ _ b ∙ passed _ _ _ d ∙ given _ _ _ tt h)
-
-    pub raw-cover : wrongTime x (sample.sampleOf raw) ≡ false → notCovered (x .consist) p (sample.sampleOf raw) ≡ true → admitRaw x raw p t ≡ Refused NotCovered
-    unfolding admitRaw
-    raw-cover e h = said (passed _ _ _ a ∙ passed _ _ _ b ∙ passed _ _ _ d ∙ passed _ _ _ e ∙ given _ _ _ tt h)
-
-    pub raw-admitted : wrongTime x (sample.sampleOf raw) ≡ false → notCovered (x .consist) p (sample.sampleOf raw) ≡ false
-        → admitRaw x raw p t ≡ Admitted (sample.sampleOf raw)
-    unfolding admitRaw
-    raw-admitted e h = said (passed _ _ _ a ∙ passed _ _ _ b ∙ passed _ _ _ d ∙ passed _ _ _ e ∙ last-passed _ _ h)
+-- 6, 7 and 8 as their judges say, then 9 and 10
+pub admit-raw-is : (x : Session) (raw : RawSample) (p t : List ℕ) (v₆ v₇ v₈ : Verdict) (b₉ b₁₀ : Bool)
+    → profile.judgeProfile p .0 ≡ v₆
+    → targets.judgeTargets t .0 ≡ v₇
+    → sample.judgeSample raw .0 ≡ v₈
+    → wrongTime x (sample.sampleOf raw) ≡ b₉
+    → notCovered (x .consist) p (sample.sampleOf raw) ≡ b₁₀
+    → admitRaw x raw p t
+    ≡ sample.judgement (orElse v₆ (orElse v₇ (orElse v₈ (firstOf ((b₉, WrongTime) ∷ (b₁₀, NotCovered) ∷ []))))) (sample.sampleOf raw)
+unfolding admitRaw sample.judgeSample
+admit-raw-is x raw p t v₆ v₇ v₈ b₉ b₁₀ h₆ h₇ h₈ h₉ h₁₀ =
+    ap (λ (v : Verdict). sample.judgement v (sample.sampleOf raw))
+    (step (profile.judgeRules p) _ v₆ tt (sym (profile-verdict p) ∙ h₆)
+    ∙ ap (orElse v₆)
+    (step (targets.judgeRules t) _ v₇ tt (sym (targets-verdict t) ∙ h₇)
+    ∙ ap (orElse v₇)
+    (step (sample.judgeRules raw) _ v₈ tt h₈
+    ∙ ap (orElse v₈) (in-order ((wrongTime x (sample.sampleOf raw), WrongTime) ∷ (notCovered (x .consist) p (sample.sampleOf raw), NotCovered) ∷ []) tt ∙ rw (h₉, h₁₀)))))
 
 -- ---- of the bytes
 
-layout-refused : (v : Verdict) (raw : RawSample) (r : Refusal) → sample.layoutAnswer v raw ≡ layout.Refused r → v ≡ verdict.Refused r
-layout-refused verdict.Accepted raw r h = absurd (let z : _≡_ {A = ℕ} 0 1 = cc in omega arith)
-layout-refused (verdict.Refused s) raw r h = cc
-
-layout-raw : (v : Verdict) (raw got : RawSample) → sample.layoutAnswer v raw ≡ layout.Raw got → (v ≡ verdict.Accepted) × (raw ≡ got)
-layout-raw verdict.Accepted raw got h = (refl, cc)
-layout-raw (verdict.Refused s) raw got h = absurd (let z : _≡_ {A = ℕ} 0 1 = cc in omega arith)
-
 module _ (x : Session) (s p t : List ℕ) where
-  bytes-said : {v w : Verdict} → v ≡ w → entry v (sampleIn s) ≡ entry w (sampleIn s)
-  bytes-said h = ap (λ (v : Verdict). entry v (sampleIn s)) h
-
-  pub not-open : isOpen x ≡ false → admitOf x s p t ≡ Refused NoSession
+  pub not-open : isOpen x ≡ false → admitOf x s p t ≡ noEntry (Refused NoSession)
   unfolding admitOf
-  not-open h = bytes-said (given _ _ _ tt (ap not h))
+  not-open h = ap (λ (v : Verdict). sample.judgement v (sampleIn s)) (given _ _ _ tt (ap not h))
 
-  pub not-laid-out : (r : Refusal) → isOpen x ≡ true → sample.layOut s ≡ layout.Refused r → admitOf x s p t ≡ Refused r
-  unfolding admitOf sample.layOut
-  not-laid-out r o h =
-      bytes-said
-      (passed _ _ _ (ap not o)
-      ∙ append-given (sample.layoutRules s) (rulesRaw x (sample.rawIn s) p t) r tt (layout-refused (lowest (sample.layoutRules s)) (sample.rawIn s) r h))
+  module _ (o : isOpen x ≡ true) where
+    laid : (v : Verdict) → lowest (sample.layoutRules s) ≡ v → admitOf x s p t ≡ sample.judgement (orElse v (lowest (rulesRaw x (sample.rawIn s) p t))) (sampleIn s)
+    unfolding admitOf
+    laid v h = ap (λ (w : Verdict). sample.judgement w (sampleIn s)) (passed _ _ _ (ap not o) ∙ step (sample.layoutRules s) _ v tt h)
 
-  pub laid-out : (raw : RawSample) → isOpen x ≡ true → sample.layOut s ≡ layout.Raw raw → admitOf x s p t ≡ admitRaw x raw p t
-  unfolding admitOf admitRaw sample.layOut
-  laid-out raw o h =
-      let l = layout-raw (lowest (sample.layoutRules s)) (sample.rawIn s) raw h in
-      bytes-said (passed _ _ _ (ap not o) ∙ append-passed (sample.layoutRules s) (rulesRaw x (sample.rawIn s) p t) (l .0))
-      ∙ ap (λ (r : RawSample). entry (lowest (rulesRaw x r p t)) (sample.sampleOf r)) (l .1)
+    pub not-laid-out : (r : Refusal) → sample.layOut s .0 ≡ Refused r → admitOf x s p t ≡ noEntry (Refused r)
+    unfolding sample.layOut
+    not-laid-out r h = laid (Refused r) h
+
+    pub laid-out : sample.layOut s .0 ≡ Accepted → admitOf x s p t ≡ admitRaw x (sample.layOut s .1) p t
+    unfolding sample.layOut admitRaw
+    laid-out h = laid Accepted h ∙ sym (ap (λ (v : Verdict). admitRaw x (sample.answer v (sample.rawIn s) .1) p t) h)

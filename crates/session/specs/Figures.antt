@@ -3,8 +3,8 @@ use mathlib.Core.Path.{_≡_}
 use mathlib.Core.Bool.{true}
 use mathlib.Core.List.{List, [], _∷_}
 use Prim.Native.Nat.{ℕ}
-use Rattle.decision.specs.declared.Answer.the-variants.{Accepted}
-use Rattle.decision.specs.Decision.{readDecision}
+use Rattle.refusal.specs.declared.Verdict.the-variants.{Accepted}
+use Rattle.decision.specs.Decision.{answer, readDecision}
 use Rattle.session.specs.declared.Session.{Session}
 use Rattle.session.specs.Session.{noneOpen}
 use Rattle.session.specs.Open.{openOf}
@@ -35,4 +35,4 @@ standing = sampleCall (openOf noneOpen consist .session) (sample 0 0 0) profile 
 
 pub record Figures : Type 0 where
   -- 1, 5,000, 1.0: the line `1 0 1 1 5032`
-  pub second-line : readDecision (sampleCall standing (sample 1 63 128) profile targets out .1) ≡ Accepted (record { time = 1; state = 0; penalty = true; cause = 1; stop = 5032 })
+  pub second-line : readDecision (sampleCall standing (sample 1 63 128) profile targets out .1) ≡ answer Accepted (record { time = 1; state = 0; penalty = true; cause = 1; stop = 5032 })

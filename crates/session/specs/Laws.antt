@@ -1,7 +1,7 @@
 -- What holds of every session: refusals exactly on their conditions, an open session stays one, the penalty stands.
 -- Statements; proofs/Laws.antt proves them.
 use mathlib.Core.Path.{_≡_}
-use mathlib.Core.Bool.{true}
+use mathlib.Core.Bool.{true, false}
 use mathlib.Core.List.{List, [], _∷_}
 use mathlib.Core.Logic.{_↔_}
 use Prim.Native.Nat.{ℕ, _<_}
@@ -11,7 +11,7 @@ use Rattle.refusal.specs.declared.Verdict.the-variants.{Accepted, Refused}
 use Rattle.consist.specs.Consist.{readRules}
 use Rattle.session.specs.declared.Session.{Session}
 use Rattle.session.specs.Session.{isOpen}
-use Rattle.session.specs.Open.{openOf}
+use Rattle.session.specs.Open.{openedWith, openOf}
 use Rattle.session.specs.Sample.{rules, sampleCall}
 
 -- ---- "a refusal is given exactly on its stated condition", the lowest first; "a refused call changes neither the session nor one byte of the output"
@@ -38,6 +38,10 @@ OpensOpen = (x : Session) (s : List ℕ) → openOf x s .verdict ≡ Accepted �
 
 unfoldable pub StaysOpen : Type 0
 StaysOpen = (x : Session) (s p t out : List ℕ) → sampleCall x s p t out .0 .verdict ≡ Accepted → isOpen (sampleCall x s p t out .0 .session) ≡ true
+
+-- an open session that has taken no sample is as its opening left it: the brake of an opening, and no cause
+unfoldable pub FreshOpening : Type 0
+FreshOpening = (x : Session) → isOpen x ≡ true → x .brake .sampled ≡ false → x ≡ openedWith (x .consist)
 
 -- ---- "Once commanded, a penalty stands until the session is opened anew."
 

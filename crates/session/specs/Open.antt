@@ -2,23 +2,20 @@
 use mathlib.Core.Bool.{true}
 use mathlib.Core.List.{List}
 use Prim.Native.Nat.{ℕ}
-use Rattle.refusal.specs.declared.Verdict.the-variants.{Accepted}
+use Rattle.refusal.specs.Steps.{kept}
+use Rattle.refusal.specs.declared.Verdict.{Verdict}
 use Rattle.consist.specs.declared.Consist.{Consist}
-use Rattle.consist.specs.declared.Answer.{Answer}
-use Rattle.consist.specs.declared.Answer.the-variants as consist
 use Rattle.consist.specs.Consist.{readConsist}
 use Rattle.brake.specs.Brake.{opened}
 use Rattle.session.specs.declared.Session.{Session}
-use Rattle.session.specs.declared.Answer.{Answer as Answered}
-use Rattle.session.specs.Session.{refusedWith}
+use Rattle.session.specs.declared.Answer.{Answer}
 
 -- "Opening gives state 0, hold = A = set, B = 0"; no penalty stands
 abbrev pub openedWith : Consist → Session
 openedWith c = record { opened = true; consist = c; brake = opened c; cause = 0 }
 
-abbrev pub openedBy : Session → Answer → Answered
-openedBy x (consist.Accepted c) = record { session = openedWith c; verdict = Accepted }
-openedBy x (consist.Refused r) = refusedWith x r
+abbrev pub openedBy : Session → Verdict × Consist → Answer
+openedBy x read = record { session = kept (read .0) (openedWith (read .1)) x; verdict = read .0 }
 
-unfoldable pub openOf : Session → List ℕ → Answered
+unfoldable pub openOf : Session → List ℕ → Answer
 openOf x s = openedBy x (readConsist s)

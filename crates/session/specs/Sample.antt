@@ -4,10 +4,9 @@ use mathlib.Core.List.{List, [], _∷_, _++_}
 use Prim.Native.Nat.{ℕ, _+_, _-_}
 use lib.Dec.{leb, ltb, eqb}
 use Rattle.refusal.specs.Lowest.{Rule, lowest}
+use Rattle.refusal.specs.Steps.{kept}
 use Rattle.refusal.specs.Written.{noRoom, written}
 use Rattle.refusal.specs.declared.Refusal.the-variants.{NoSession, BrokenProfile, BrokenTargets, BadReading, WrongTime, NotCovered, TooFast, NoRoom}
-use Rattle.refusal.specs.declared.Verdict.{Verdict}
-use Rattle.refusal.specs.declared.Verdict.the-variants as verdict
 use Rattle.consist.specs.declared.Consist.{Consist}
 use Rattle.profile.specs.Profile as profile
 use Rattle.targets.specs.Targets as targets
@@ -66,12 +65,12 @@ predictionOf c k m p speeds =
     predictOf c (forceAt (c .rated) (penaltyCurve c (k .a) (k .b))) (groundOf (layOf p) (c .length)) (m .head) (m .speed) speeds
 
 abbrev pub prediction : Session → Sample → List ℕ → List ℕ → Prediction
-prediction x m p t = predictionOf (x .consist) (brakeAfter x m) m p (targets.speedsIn t 8)
+prediction x m p t = predictionOf (x .consist) (brakeAfter x m) m p (targets.speedsIn t targets.most)
 
 -- the cause that this prediction calls for, 0 for none
 unfoldable pub calledOf : Session → Sample → List ℕ → List ℕ → ℕ
 calledOf x m p t =
-    causeOf (x .consist .offset) (m .head) (m .speed) (targets.count t) (targets.locationsIn t 8) (targets.speedsIn t 8) (prediction x m p t .places)
+    causeOf (x .consist .offset) (m .head) (m .speed) (targets.count t) (targets.locationsIn t targets.most) (targets.speedsIn t targets.most) (prediction x m p t .places)
 
 -- "The cause is the first such target and, like the penalty, stays."
 unfoldable pub causeAfter : Session → Sample → List ℕ → List ℕ → ℕ
@@ -107,15 +106,11 @@ rules x s p t out =
     ∷ (wrongTime x (sampleIn s), WrongTime)
     ∷ (notCovered (x .consist) p (sampleIn s), NotCovered)
     ∷ (prediction x (sampleIn s) p t .fast, TooFast)
-    ∷ (noRoom 8 out, NoRoom)
+    ∷ (noRoom decision.size out, NoRoom)
     ∷ []
-
-abbrev pub kept : Verdict → Session → Session → Session
-kept verdict.Accepted old new = new
-kept (verdict.Refused r) old new = old
 
 -- answer, session and every byte of the output: a refused call changes nothing; an accepted one "writes the first 8 output bytes only"
 unfoldable pub sampleCall : Session → List ℕ → List ℕ → List ℕ → List ℕ → Answer × List ℕ
 sampleCall x s p t out =
     let v = lowest (rules x s p t out) in
-    (record { session = kept v x (sessionAfter x (sampleIn s) p t); verdict = v }, written v (decision.bytesOf (decisionOf x (sampleIn s) p t)) out .1)
+    (record { session = kept v (sessionAfter x (sampleIn s) p t) x; verdict = v }, written v (decision.bytesOf (decisionOf x (sampleIn s) p t)) out .1)

@@ -1,14 +1,25 @@
--- What a session holds, and when it is open. Definitions only.
-use mathlib.Core.Bool.{Bool, false, _&&_}
-use lib.Dec.{leb}
+-- What a session holds, when it is open, and how a session and an answer are told. Definitions only.
+use mathlib.Core.Bool.{Bool, false, _&&_, _||_}
+use mathlib.Core.List.{List}
+use Prim.Native.Nat.{ℕ}
+use lib.Dec.{leb, eqb}
+use Rattle.refusal.specs.Number.{told}
+use Rattle.refusal.specs.declared.Refusal.{Refusal}
+use Rattle.refusal.specs.declared.Verdict.{Verdict}
+use Rattle.refusal.specs.declared.Verdict.the-variants.{Refused}
 use Rattle.consist.specs.declared.Consist.{Consist}
 use Rattle.consist.specs.Consist as consist
-use Rattle.brake.specs.Brake.{opened}
+use Rattle.targets.specs.Targets as targets
+use Rattle.brake.specs.Brake.{brakeTold, opened, isOpened}
 use Rattle.brake.specs.Sound as brake
-use Rattle.refusal.specs.declared.Refusal.{Refusal}
-use Rattle.refusal.specs.declared.Verdict.the-variants.{Refused}
 use Rattle.session.specs.declared.Session.{Session}
 use Rattle.session.specs.declared.Answer.{Answer}
+
+-- ---- "a session is open"
+
+-- what a session is that has taken no sample: the brake of an opening, and no cause
+abbrev pub isFresh : Session → Bool
+isFresh x = isOpened (x .consist) (x .brake) && eqb (x .cause) 0
 
 -- every value that an opening or an accepted sample hands back passes this test; what fails it is no open session
 unfoldable pub isOpen : Session → Bool
@@ -16,25 +27,33 @@ isOpen x =
     x .opened
     && consist.isSound (x .consist)
     && brake.isSound (x .consist) (x .brake)
-    && leb (x .cause) 8
+    && leb (x .cause) targets.most
+    && (x .brake .sampled || isFresh x)
 
 -- the value before any opening
-abbrev pub noConsist : Consist
-noConsist = record {
-  cars = 0;
-  axles = 0;
-  weight = 0;
-  length = 0;
-  rated = 0;
-  application = 0;
-  recharge = 0;
-  set = 0;
-  offset = 0;
-}
-
 abbrev pub noneOpen : Session
-noneOpen = record { opened = false; consist = noConsist; brake = opened noConsist; cause = 0 }
+noneOpen = record { opened = false; consist = consist.none; brake = opened consist.none; cause = 0 }
 
 -- a refused call: "an earlier session stays as it was"
+abbrev pub unchanged : Session → Verdict → Answer
+unchanged x v = record { session = x; verdict = v }
+
 abbrev pub refusedWith : Session → Refusal → Answer
-refusedWith x r = record { session = x; verdict = Refused r }
+refusedWith x r = unchanged x (Refused r)
+
+-- ---- the paper's number and values
+
+-- opened or not, the consist, what the air brakes hold, the cause
+abbrev pub Told : Type 0
+Told = Bool × Consist × List ℕ × ℕ
+
+abbrev pub sessionTold : Session → Told
+sessionTold x = (x .opened, x .consist, brakeTold (x .brake), x .cause)
+
+-- of an answer, the number of its verdict and the session
+abbrev pub answerTold : Answer → ℕ × Told
+answerTold a = told (a .verdict, sessionTold (a .session))
+
+-- of a sample call, the answer and the lent output
+abbrev pub callTold : Answer × List ℕ → (ℕ × Told) × List ℕ
+callTold c = (answerTold (c .0), c .1)

@@ -4,7 +4,6 @@ use Prim.Native.Nat.{ℕ, _≤_}
 use Rattle.refusal.specs.Lowest.{Rule, lowest}
 use Rattle.refusal.specs.declared.Refusal.the-variants.{NoSession, BrokenProfile, BrokenTargets, BadReading, WrongTime, NotCovered}
 use Rattle.refusal.specs.declared.Verdict.{Verdict}
-use Rattle.refusal.specs.declared.Verdict.the-variants as verdict
 use Rattle.consist.specs.declared.Consist.{Consist}
 use Rattle.consist.specs.Sound as consist
 use Rattle.brake.specs.declared.Brake.{Brake}
@@ -14,19 +13,13 @@ use Rattle.track.specs.Gentle.{Gentle}
 use Rattle.sample.specs.Bounds.{Bounded}
 use Rattle.sample.specs.declared.RawSample.{RawSample}
 use Rattle.sample.specs.declared.Sample.{Sample}
-use Rattle.sample.specs.Sample.{rawIn, sampleOf, badReading, layoutRules}
+use Rattle.sample.specs.Sample.{rawIn, sampleOf, badReading, layoutRules, noSample, judgement}
 use Rattle.profile.specs.Profile as profile
 use Rattle.targets.specs.Targets as targets
 use Rattle.session.specs.declared.Session.{Session}
-use Rattle.session.specs.declared.Entry.{Entry}
-use Rattle.session.specs.declared.Entry.the-variants.{Admitted, Refused}
 use Rattle.session.specs.declared.After.{After}
 use Rattle.session.specs.declared.Listed.{Listed}
 use Rattle.session.specs.Sample.{sampleIn, notOpen, wrongTime, notCovered, sessionAfter, decisionOf, prediction}
-
-abbrev pub entry : Verdict → Sample → Entry
-entry verdict.Accepted m = Admitted m
-entry (verdict.Refused r) m = Refused r
 
 -- the table's lines between the layout and the walk, of a sample that is laid out
 abbrev pub rulesRaw : Session → RawSample → List ℕ → List ℕ → List Rule
@@ -42,17 +35,21 @@ rulesRaw x raw p t =
 abbrev pub rulesBefore : Session → List ℕ → List ℕ → List ℕ → List Rule
 rulesBefore x s p t = (notOpen x, NoSession) ∷ layoutRules s ++ rulesRaw x (rawIn s) p t
 
+-- a refused entry has no sample
+abbrev pub noEntry : Verdict → Verdict × Sample
+noEntry v = (v, noSample)
+
 -- what is refused of a sample that is laid out, or the sample
-unfoldable pub admitRaw : Session → RawSample → List ℕ → List ℕ → Entry
-admitRaw x raw p t = entry (lowest (rulesRaw x raw p t)) (sampleOf raw)
+unfoldable pub admitRaw : Session → RawSample → List ℕ → List ℕ → Verdict × Sample
+admitRaw x raw p t = judgement (lowest (rulesRaw x raw p t)) (sampleOf raw)
 
 -- what is refused before the walk, or the sample
-unfoldable pub admitOf : Session → List ℕ → List ℕ → List ℕ → Entry
-admitOf x s p t = entry (lowest (rulesBefore x s p t)) (sampleIn s)
+unfoldable pub admitOf : Session → List ℕ → List ℕ → List ℕ → Verdict × Sample
+admitOf x s p t = judgement (lowest (rulesBefore x s p t)) (sampleIn s)
 
 -- the targets, place by place
 abbrev pub listedOf : List ℕ → Listed
-listedOf t = record { count = targets.count t; locations = targets.locationsIn t 8; speeds = targets.speedsIn t 8 }
+listedOf t = record { count = targets.count t; locations = targets.locationsIn t targets.most; speeds = targets.speedsIn t targets.most }
 
 -- what an accepted sample makes of the session
 abbrev pub afterOf : Session → Sample → List ℕ → List ℕ → After

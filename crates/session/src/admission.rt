@@ -3,13 +3,15 @@ use super::Entry;
 use super::Session;
 use super::is_open;
 use consist::Consist;
+use profile::Segment;
 use refusal::Refusal;
-use sample::Layout;
+use refusal::Verdict;
 use sample::RawSample;
+use sample::RearPressure;
 use sample::Sample;
 ghost use mathlib.Core.Path.{_≡_};
 ghost use Rattle.session.specs.Sample.{wrongTime, lastStart, notCovered};
-ghost use Rattle.session.specs.Steps.{admitRaw, admitOf};
+ghost use Rattle.session.specs.Steps.{noEntry, admitRaw, admitOf};
 
 // Time not 1 to 5 seconds after the last accepted sample.
 fn wrong_time(x: Session, m: Sample) -> bool
@@ -25,7 +27,7 @@ fn wrong_time(x: Session, m: Sample) -> bool
 fn last_start(p: &[u8]) -> u32
     ensures { λ r. ⌜ r ≡ lastStart (now (p .entry)) ⌝ }
 {
-    let n = p.len() / 6;
+    let n = p.len() / Segment::SIZE;
     let last = if n == 0 { 0 } else { n - 1 };
     profile::segment_at(p, last).start
 }
@@ -41,37 +43,64 @@ fn not_covered(c: Consist, p: &[u8], m: Sample) -> bool
     (m.head < length) | (rear < first) | ((last as u64) < m.head as u64 + 32_768)
 }
 
+// No sample to go on with.
+fn refused(verdict: Verdict) -> Entry
+    ensures { λ r. ⌜ (r .verdict, r .sample) ≡ noEntry verdict ⌝ }
+{
+    Entry {
+        verdict,
+        sample: Sample {
+            time: 0,
+            head: 0,
+            speed: 0,
+            front: 0,
+            rear: RearPressure::Lost,
+        },
+    }
+}
+
 // From 6 on, of a sample that is laid out.
 fn admit_raw(x: Session, raw: RawSample, p: &[u8], t: &[u8]) -> Entry
-    ensures { λ r. ⌜ r ≡ admitRaw x raw (now (p .entry)) (now (t .entry)) ⌝ }
+    ensures { λ r. ⌜ (r .verdict, r .sample) ≡ admitRaw x raw (now (p .entry)) (now (t .entry)) ⌝ }
 {
-    let profile::Judged::Records(_) = profile::judge(p) else {
-        return Entry::Refused(Refusal::BrokenProfile);
+    let on_profile = profile::judge(p).verdict;
+    let Verdict::Accepted = on_profile else {
+        return refused(on_profile);
     };
-    let targets::Judged::Records(_) = targets::judge(t) else {
-        return Entry::Refused(Refusal::BrokenTargets);
+    let on_targets = targets::judge(t).verdict;
+    let Verdict::Accepted = on_targets else {
+        return refused(on_targets);
     };
-    let sample::Judged::Accepted(m) = sample::judge(raw) else {
-        return Entry::Refused(Refusal::BadReading);
+    let judged = sample::judge(raw);
+    let on_readings = judged.verdict;
+    let Verdict::Accepted = on_readings else {
+        return refused(on_readings);
     };
+    let m = judged.sample;
     if wrong_time(x, m) {
-        return Entry::Refused(Refusal::WrongTime);
+        return refused(Verdict::Refused(Refusal::WrongTime));
     }
     let c = x.consist;
     if not_covered(c, p, m) {
-        return Entry::Refused(Refusal::NotCovered);
+        return refused(Verdict::Refused(Refusal::NotCovered));
     }
-    Entry::Admitted(m)
+    Entry {
+        verdict: Verdict::Accepted,
+        sample: m,
+    }
 }
 
 pub(crate) fn admit(x: Session, s: &[u8], p: &[u8], t: &[u8]) -> Entry
-    ensures { λ r. ⌜ r ≡ admitOf x (now (s .entry)) (now (p .entry)) (now (t .entry)) ⌝ }
+    ensures { λ r. ⌜ (r .verdict, r .sample) ≡ admitOf x (now (s .entry)) (now (p .entry)) (now (t .entry)) ⌝ }
 {
     if !is_open(x) {
-        return Entry::Refused(Refusal::NoSession);
+        return refused(Verdict::Refused(Refusal::NoSession));
     }
-    match sample::lay_out(s) {
-        Layout::Refused(r) => Entry::Refused(r),
-        Layout::Raw(raw) => admit_raw(x, raw, p, t),
-    }
+    let laid = sample::lay_out(s);
+    let on_layout = laid.verdict;
+    let Verdict::Accepted = on_layout else {
+        return refused(on_layout);
+    };
+    let raw = laid.raw;
+    admit_raw(x, raw, p, t)
 }

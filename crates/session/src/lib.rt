@@ -10,8 +10,9 @@ use prediction::after;
 use refusal::Refusal;
 use refusal::Verdict;
 use sample::Sample;
+use targets::Target;
 ghost use mathlib.Core.Path.{_≡_};
-ghost use Rattle.session.specs.Session.{isOpen, noneOpen, refusedWith};
+ghost use Rattle.session.specs.Session.{isOpen, noneOpen, unchanged, sessionTold, answerTold, callTold};
 ghost use Rattle.session.specs.Open.{openOf};
 ghost use Rattle.session.specs.Sample.{sampleCall};
 
@@ -31,17 +32,17 @@ pub struct Answer {
     pub verdict: Verdict,
 }
 
-// What the refusals before the walk leave: the sample to go on with, or the refusal.
-pub enum Entry {
-    Admitted(Sample),
-    Refused(Refusal),
+// What the refusals before the walk leave: the sample to go on with; where it is refused, that is all zero and its rear lost.
+pub struct Entry {
+    pub verdict: Verdict,
+    pub sample: Sample,
 }
 
 // The targets of a call, place by place; zeros past the last.
 pub struct Listed {
     pub count: usize,
-    pub locations: [u32; 8],
-    pub speeds: [u16; 8],
+    pub locations: [u32; Target::MOST],
+    pub speeds: [u16; Target::MOST],
 }
 
 // What an admitted sample makes of the session, what is decided, and whether the walk was too fast.
@@ -53,7 +54,7 @@ pub struct After {
 
 // The value before any opening.
 pub fn none() -> Session
-    ensures { λ r. ⌜ r ≡ noneOpen ⌝ }
+    ensures { λ r. ⌜ sessionTold r ≡ sessionTold noneOpen ⌝ }
 {
     let consist = Consist {
         cars: 0,
@@ -83,61 +84,69 @@ pub fn is_open(x: Session) -> bool
     let k = x.brake;
     let consist_sound = consist::is_sound(c);
     let brake_sound = k.is_sound(c);
-    x.opened & consist_sound & brake_sound & (x.cause <= 8)
+    let fresh = k.is_opened(c) & (x.cause == 0);
+    x.opened
+        & consist_sound
+        & brake_sound
+        & (x.cause as usize <= Target::MOST)
+        & (k.sampled | fresh)
 }
 
 // The session as it was.
-fn refused(x: Session, r: Refusal) -> Answer
-    ensures { λ y. ⌜ y ≡ refusedWith x r ⌝ }
+fn refused(x: Session, verdict: Verdict) -> Answer
+    ensures { λ y. ⌜ y ≡ unchanged x verdict ⌝ }
 {
     Answer {
         session: x,
-        verdict: Verdict::Refused(r),
+        verdict,
     }
 }
 
 // Opens a session anew with the consist that the bytes are.
 pub fn open(x: Session, s: &[u8]) -> Answer
-    ensures { λ r. ⌜ r ≡ openOf x (now (s .entry)) ⌝ }
+    ensures { λ r. ⌜ answerTold r ≡ answerTold (openOf x (now (s .entry))) ⌝ }
 {
-    match consist::read(s) {
-        consist::Answer::Refused(r) => refused(x, r),
-        consist::Answer::Accepted(c) => {
-            let brake = Brake::opened(c);
-            let session = Session {
-                opened: true,
-                consist: c,
-                brake,
-                cause: 0,
-            };
-            Answer {
-                session,
-                verdict: Verdict::Accepted,
-            }
-        }
+    let read = consist::read(s);
+    let verdict = read.verdict;
+    let Verdict::Accepted = verdict else {
+        return refused(x, verdict);
+    };
+    let c = read.consist;
+    let brake = Brake::opened(c);
+    let session = Session {
+        opened: true,
+        consist: c,
+        brake,
+        cause: 0,
+    };
+    Answer {
+        session,
+        verdict: Verdict::Accepted,
     }
 }
 
-// Judges a sample, with the profile and the targets lent for it, and writes the decision to the first 8 bytes of `out`.
+// Judges a sample, with the profile and the targets lent for it, and writes the decision to the front of `out`.
 pub fn sample(x: Session, s: &[u8], p: &[u8], t: &[u8], out: &mut [u8]) -> Answer
-    ensures { λ r. ⌜ (r, now (out .exit)) ≡ sampleCall x (now (s .entry)) (now (p .entry)) (now (t .entry)) (now (out .entry)) ⌝ }
+    ensures { λ r. ⌜ callTold (r, now (out .exit)) ≡ callTold (sampleCall x (now (s .entry)) (now (p .entry)) (now (t .entry)) (now (out .entry))) ⌝ }
 {
-    match admit(x, s, p, t) {
-        Entry::Refused(r) => refused(x, r),
-        Entry::Admitted(m) => {
-            let next = after(x, m, p, t);
-            let session = next.session;
-            let decided = next.decision;
-            if next.fast {
-                return refused(x, Refusal::TooFast);
-            }
-            match decision::write(decided, out) {
-                Verdict::Refused(r) => refused(x, r),
-                Verdict::Accepted => Answer {
-                    session,
-                    verdict: Verdict::Accepted,
-                },
-            }
-        }
+    let entry = admit(x, s, p, t);
+    let admitted = entry.verdict;
+    let Verdict::Accepted = admitted else {
+        return refused(x, admitted);
+    };
+    let m = entry.sample;
+    let next = after(x, m, p, t);
+    let session = next.session;
+    let decided = next.decision;
+    if next.fast {
+        return refused(x, Verdict::Refused(Refusal::TooFast));
+    }
+    let written = decision::write(decided, out);
+    let Verdict::Accepted = written else {
+        return refused(x, written);
+    };
+    Answer {
+        session,
+        verdict: Verdict::Accepted,
     }
 }

@@ -6,6 +6,7 @@ use brake::Brake;
 use consist::Consist;
 use decision::Decision;
 use sample::Sample;
+use targets::Target;
 use track::Track;
 use walk::Curve;
 use walk::Prediction;
@@ -18,24 +19,24 @@ ghost use Rattle.session.specs.Steps.{listedOf, afterOf, Predictable, Re
 fn listed(t: &[u8]) -> Listed
     ensures { λ r. ⌜ r ≡ listedOf (now (t .entry)) ⌝ }
 {
-    let mut locations = [0u32; 8];
-    let mut speeds = [0u16; 8];
+    let mut locations = [0u32; Target::MOST];
+    let mut speeds = [0u16; Target::MOST];
     let mut k: usize = 0;
-    while k < 8 {
+    while k < Target::MOST {
         let g = targets::target_at(t, k);
         locations[k] = g.location;
         speeds[k] = g.speed;
         k += 1;
     }
     Listed {
-        count: t.len() / 5,
+        count: t.len() / Target::SIZE,
         locations,
         speeds,
     }
 }
 
 // From the pressures of an updated brake.
-fn predicted(c: Consist, k: Brake, m: Sample, p: &[u8], speeds: [u16; 8]) -> Prediction
+fn predicted(c: Consist, k: Brake, m: Sample, p: &[u8], speeds: [u16; Target::MOST]) -> Prediction
     requires { ⌜ Predictable c k m (now p) ⌝ }
     ensures { λ r. ⌜ r ≡ predictionOf c k m (now (p .entry)) speeds ⌝ }
 {

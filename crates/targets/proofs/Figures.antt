@@ -1,11 +1,11 @@
 -- The targets' figures, computed. Assumes nothing.
 use mathlib.Core.Path.{refl}
-use Rattle.refusal.specs.Lowest.{lowest}
-use Rattle.targets.specs.Targets.{counted, inRange, good, kept, recordAt, targetAt, keptIn, bytesOf, judgeTargets}
+use Rattle.table.proofs.Computing.{computing}
+use Rattle.targets.specs.Targets.{inRange}
 use Rattle.targets.specs.Figures.{Figures}
 
 pub figures : Figures
-unfolding counted inRange good kept recordAt targetAt keptIn bytesOf judgeTargets lowest
+unfolding computing inRange
 figures = record {
   none = refl;
   bytes = refl;

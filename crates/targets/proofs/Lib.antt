@@ -1,6 +1,4 @@
 -- Laws of the targets' judge and writer.
-pub mod Rules
-pub mod Answers
 pub mod Sound
 pub mod RoundTrip
 pub mod Exactly

@@ -1,64 +1,68 @@
--- Accepted targets keep every rule, said of the numbers. Assumes nothing.
-use mathlib.Core.Path.{_≡_, refl, subst}
-use Prim.Native.Nat.{ℕ, suc, _*_, _%_, _<_}
+-- What one target and its fields have to do with each other, and what the judge and the writer accept, said of the numbers. Assumes nothing.
+use mathlib.Core.Path.{_≡_, refl}
+use mathlib.Core.Bool.{Bool, true, not, _&&_}
+use mathlib.Core.List.{List, [], _∷_}
+use Prim.Native.Nat.{ℕ, _*_}
 use native.Mathlib.Omega.{arith}
-use mathlib.Core.Bool.{true}
-use mathlib.Core.List.{List}
+use lib.Dec.{leb, leb·zero}
 use lib.ListN.{length}
-use lib.Dec.{eqb}
-use borrow.Author.Tests.{ltb-true, eqb-true, not-false}
+use borrow.Author.Tests.{leb-true, eqb-true}
+use Rattle.bits.specs.Fields.{Fit}
 use Rattle.bits.proofs.Ranges.{and-true-left, and-true-right}
-use Rattle.refusal.specs.declared.Verdict.{Verdict}
-use Rattle.refusal.specs.declared.Verdict.the-variants as verdict
-use Rattle.refusal.proofs.Order.{accepted}
+use Rattle.refusal.specs.Written.{noRoom, written}
+use Rattle.refusal.specs.declared.Refusal.the-variants.{BrokenTargets, NoRoom}
+use Rattle.refusal.specs.declared.Verdict.the-variants.{Accepted}
+use Rattle.refusal.proofs.Steps.{firstOf}
+use Rattle.table.specs.Table as specs
+use Rattle.table.proofs.Records.{Facts}
+use Rattle.table.proofs.Judging as table
+use Rattle.table.proofs.Writing as writing
+use Rattle.table.proofs.RoundTrip.{written-kept}
 use Rattle.targets.specs.declared.Target.{Target}
-use Rattle.targets.specs.declared.Judged.the-variants.{Records}
-use Rattle.targets.specs.Targets.{size, kept, count, targetAt, keptIn, answer, judgeTargets}
-use Rattle.targets.specs.Sound.{Sound}
-use Rattle.bits.proofs.Tables.{rise-all}
-use Rattle.targets.proofs.Rules.{ranged, kept-count, kept-range, kept-rises}
+use Rattle.targets.specs.Targets.{size, most, widths, fieldsOf, inRange, targets, counted, count, targetAt, keptIn, judgeTargets, targetOf, bytesOf, same, keptOf, writeTargets}
+use Rattle.targets.specs.Sound.{Ranged, Sound}
 
--- ---- what is accepted is kept
+-- ---- one target
 
-answer-records : (v : Verdict) (m n : ℕ) → answer v m ≡ Records n → (v ≡ verdict.Accepted) × (m ≡ n)
-answer-records verdict.Accepted m n h = (refl, cc)
-answer-records (verdict.Refused r) m n h = absurd (let z : _≡_ {A = ℕ} 0 1 = cc in omega arith)
+pub ranged : (g : Target) → inRange g ≡ true → Ranged g
+unfolding inRange
+ranged g h = record {
+  location = leb-true _ _ (and-true-left (leb (g .location) 4000000) (leb (g .speed) 10000) h);
+  speed = leb-true _ _ (and-true-right (leb (g .location) 4000000) (leb (g .speed) 10000) h);
+}
 
-pub judged-kept : (t : List ℕ) (n : ℕ) → judgeTargets t ≡ Records n → (keptIn t ≡ true) × (count t ≡ n)
-unfolding judgeTargets
-judged-kept t n h =
-    let a = answer-records _ (count t) n h in
-    (not-false (keptIn t) (accepted _ _ _ (a .0) .0), a .1)
+fits : (g : Target) → inRange g ≡ true → Fit widths (fieldsOf g)
+fits g h = omega (arith, ranged g h)
 
--- whole records, and the rules
-pub record Parts (t : List ℕ) : Type 0 where
-  pub whole : length t % size ≡ 0
-  pub rules : kept (count t) (targetAt t) ≡ true
+pub facts : Facts targets
+facts = record { some = omega arith; whole = refl; narrow = tt; right = λ g. refl; fits = fits; back = λ g h. refl; forth = λ m h. refl; first = tt }
 
-pub parts : (t : List ℕ) → keptIn t ≡ true → Parts t
-unfolding keptIn
-parts t h =
-    let a = eqb (length t % size) 0 in
-    let b = kept (count t) (targetAt t) in
-    record { whole = eqb-true (length t % size) 0 (and-true-left a b h); rules = and-true-right a b h }
+-- ---- how many
 
-pub judged-length : (t : List ℕ) (n : ℕ) → judgeTargets t ≡ Records n → length t ≡ size * n
-judged-length t n h =
-    let k = judged-kept t n h in
-    omega (arith, parts t (k .0) .whole, k .1)
+-- there is no fewest
+pub counted-is : (whole : Bool) (n : ℕ) → whole && leb n most ≡ whole && counted n
+unfolding specs.counted
+counted-is whole n = rw (leb·zero n)
 
--- ---- what is kept is sound
+-- ---- what is accepted
 
-pub kept-sound : (n : ℕ) (f : ℕ → Target) → kept n f ≡ true → Sound n f
-kept-sound n f h =
-    let next : (k : ℕ) → suc k < n → f k .location < f (suc k) .location = λ k l. ltb-true _ _ (kept-rises n f h (suc k) l) in
-    record {
-      most = kept-count n f h;
-      each = λ k l. ranged (f k) (kept-range n f h k l);
-      rising = rise-all n (λ k. f k .location) next;
-    }
+module _ (t : List ℕ) where
+  pub judge-kept : keptIn t ≡ true → judgeTargets t ≡ (Accepted, count t)
+  judge-kept h = table.judge-is targets t true h
 
-pub judged-sound : (t : List ℕ) (n : ℕ) → judgeTargets t ≡ Records n → Sound n (targetAt t)
-judged-sound t n h =
-    let k = judged-kept t n h in
-    subst (λ (m : ℕ). Sound m (targetAt t)) (k .1) (kept-sound (count t) (targetAt t) (parts t (k .0) .rules))
+  module _ (n : ℕ) (h : judgeTargets t ≡ (Accepted, n)) where
+    pub judged-kept : (keptIn t ≡ true) × (count t ≡ n)
+    judged-kept = table.judged-kept targets t n h
+
+    pub judged-sound : Sound n (targetAt t)
+    judged-sound =
+        let s = table.judged-sound targets t n h in
+        record { most = s .most; each = λ k l. ranged (targetAt t k) (s .each k l); rising = s .rising }
+
+pub written-lengths : (locations speeds out : List ℕ) → writeTargets locations speeds out .0 ≡ Accepted → length speeds ≡ length locations
+written-lengths locations speeds out h = eqb-true _ _ (and-true-left (same locations speeds) _ (written-kept targets _ _ _ out h .0))
+
+-- what the writer answers, one rule after the other
+pub write-is : (locations speeds out : List ℕ) (a b : Bool) → keptOf locations speeds ≡ a → noRoom (size * length locations) out ≡ b
+    → writeTargets locations speeds out ≡ written (firstOf ((not a, BrokenTargets) ∷ (b, NoRoom) ∷ [])) (bytesOf (length locations) (targetOf locations speeds)) out
+write-is locations speeds out = writing.write-is targets (targetOf locations speeds) facts (same locations speeds) (length locations) out

@@ -1,10 +1,11 @@
 -- No second answer satisfies a contract, as the check reads it from the source. Assumes nothing.
-use mathlib.Core.Path.{_≡_, sym, _∙_}
+use mathlib.Core.Path.{_≡_, sym, ap, _∙_}
 use Prim.Native.Nat.{ℕ}
 use mathlib.Core.List.{List}
 use contract.Lifetimes.{Lfts}
 use denote.Ref.{now}
 use Rattle.refusal.specs.declared.Verdict.{Verdict}
+use Rattle.refusal.proofs.Numbers.{told-one}
 use Rattle.targets.proofs.target_at.Reads as target-at
 use Rattle.targets.proofs.judge.Reads as judge
 use Rattle.targets.proofs.write.Reads as write
@@ -13,8 +14,8 @@ pub target-at-one : (κs : Lfts 1) (a : _) (r₁ r₂ : _) (x : _) → target-at
 target-at-one κs a r₁ r₂ x p q = p ∙ sym q
 
 pub judge-one : (κs : Lfts 1) (a : _) (r₁ r₂ : _) (x : _) → judge.Post κs a r₁ x → judge.Post κs a r₂ x → r₁ ≡ r₂
-judge-one κs a r₁ r₂ x p q = p ∙ sym q
+judge-one κs a r₁ r₂ x p q = ap (λ (z : Verdict × ℕ). record { verdict = z .0; records = z .1 }) (told-one _ _ (p ∙ sym q))
 
 pub write-one : (κs : Lfts 3) (a : _) (r₁ r₂ : _) (x₁ x₂ : _) → write.Post κs a r₁ x₁ → write.Post κs a r₂ x₂
     → _≡_ {A = Verdict × List ℕ} (r₁, now (x₁ .1 .1 .0)) (r₂, now (x₂ .1 .1 .0))
-write-one κs a r₁ r₂ x₁ x₂ p q = p ∙ sym q
+write-one κs a r₁ r₂ x₁ x₂ p q = told-one _ _ (p ∙ sym q)

@@ -1,26 +1,29 @@
--- "Targets, 5 bytes a record": the layout, the rules, the judge and the writer. Definitions only.
-use Prim.Native.Nat.{ℕ, zero, suc, _*_, _/_, _%_}
+-- "Targets, 5 bytes a record": the layout and the rules; the judge and the writer are those of every table. Definitions only.
+use Prim.Native.Nat.{ℕ}
 use mathlib.Core.List.{List, [], _∷_}
-use mathlib.Core.Bool.{Bool, true, _&&_, not, cond}
+use mathlib.Core.Bool.{Bool, true, _&&_}
 use lib.ListN.{length, getD}
-use lib.Dec.{leb, ltb, eqb}
-use Rattle.bits.specs.Fields.{split}
-use Rattle.bits.specs.Bytes.{num, bytesFrom}
-use Rattle.bits.specs.Tables.{every, part, table, upTo}
-use Rattle.refusal.specs.Lowest.{Rule, lowest}
-use Rattle.refusal.specs.Written.{noRoom, written}
-use Rattle.refusal.specs.declared.Refusal.the-variants.{BrokenTargets, NoRoom}
+use lib.Dec.{leb, eqb}
+use Rattle.bits.specs.Tables.{upTo}
+use Rattle.refusal.specs.Lowest.{Rule}
+use Rattle.refusal.specs.declared.Refusal.the-variants.{BrokenTargets}
 use Rattle.refusal.specs.declared.Verdict.{Verdict}
-use Rattle.refusal.specs.declared.Verdict.the-variants as verdict
+use Rattle.refusal.specs.declared.Verdict.the-variants.{Refused}
+use Rattle.table.specs.Table as table
+use Rattle.table.specs.Table.{Table}
 use Rattle.targets.specs.declared.Target.{Target}
-use Rattle.targets.specs.declared.Judged.{Judged}
-use Rattle.targets.specs.declared.Judged.the-variants.{Records, Refused}
 
 -- ---- the layout
 
--- 5 bytes a record
+-- 5 bytes a record, 0 to 8 records
 abbrev pub size : ℕ
 size = 5
+
+abbrev pub fewest : ℕ
+fewest = 0
+
+abbrev pub most : ℕ
+most = 8
 
 -- location 24, speed 16
 abbrev pub widths : List ℕ
@@ -32,46 +35,39 @@ fieldsOf g = g .location ∷ g .speed ∷ []
 abbrev pub ofFields : List ℕ → Target
 ofFields fs = record { location = getD fs 0 0; speed = getD fs 1 0 }
 
--- the bytes of one record
-abbrev pub targetBytes : Target → List ℕ
-targetBytes g = bytesFrom size widths (fieldsOf g)
-
--- ---- the rules: targets are a number of records and each of these
-
--- 0 to 8 records
-unfoldable pub counted : ℕ → Bool
-counted n = leb n 8
+-- ---- the rules
 
 -- location (at most 4,000,000), speed (0 to 10,000)
 unfoldable pub inRange : Target → Bool
 inRange g = leb (g .location) 4000000 && leb (g .speed) 10000
 
--- locations strictly rise: each is above the one before
-abbrev pub rises : (ℕ → Target) → ℕ → Bool
-rises f zero = true
-rises f (suc k) = ltb (f k .location) (f (suc k) .location)
+-- no bit is spare; locations strictly rise; the last one is as the others
+-- 7: the targets break any rule above, their byte count included
+abbrev pub targets : Table Target
+targets = record {
+  size = size;
+  fewest = fewest;
+  most = most;
+  widths = widths;
+  fieldsOf = fieldsOf;
+  ofFields = ofFields;
+  clean = λ fs. true;
+  inRange = inRange;
+  key = λ g. g .location;
+  ends = λ g. true;
+  broken = BrokenTargets;
+}
 
--- record k keeps what is said of each
-unfoldable pub good : (ℕ → Target) → ℕ → Bool
-good f k = inRange (f k) && rises f k
-
--- n records keep every rule
-unfoldable pub kept : ℕ → (ℕ → Target) → Bool
-kept n f = counted n && every n (good f)
+abbrev pub counted : ℕ → Bool
+counted = table.counted targets
 
 -- ---- the judge, of bytes
 
--- how many whole records
 abbrev pub count : List ℕ → ℕ
-count t = length t / size
+count = table.count targets
 
--- the number that the bits of record k are; past the last whole record, zero
-unfoldable pub recordAt : List ℕ → ℕ → ℕ
-recordAt t k = cond (ltb k (count t)) (num (part size t k)) 0
-
--- record k; past the last whole record, one of zeros
-unfoldable pub targetAt : List ℕ → ℕ → Target
-targetAt t k = ofFields (split widths (recordAt t k))
+abbrev pub targetAt : List ℕ → ℕ → Target
+targetAt = table.recordAt targets
 
 -- the locations and the speeds of the first n
 abbrev pub locationsIn : List ℕ → ℕ → List ℕ
@@ -80,46 +76,38 @@ locationsIn t n = upTo n (λ k. targetAt t k .location)
 abbrev pub speedsIn : List ℕ → ℕ → List ℕ
 speedsIn t n = upTo n (λ k. targetAt t k .speed)
 
--- 5 bytes a record, and the rules
-unfoldable pub keptIn : List ℕ → Bool
-keptIn t = eqb (length t % size) 0 && kept (count t) (targetAt t)
+abbrev pub keptIn : List ℕ → Bool
+keptIn = table.keptIn targets
 
--- 7: the targets break any rule above, their byte count included
 abbrev pub brokenIn : List ℕ → Bool
-brokenIn t = not (keptIn t)
+brokenIn = table.brokenIn targets
 
 abbrev pub judgeRules : List ℕ → List Rule
-judgeRules t = (brokenIn t, BrokenTargets) ∷ []
+judgeRules = table.judgeRules targets
 
--- the paper's number and values: the refusal, or how many records
-abbrev pub answer : Verdict → ℕ → Judged
-answer verdict.Accepted n = Records n
-answer (verdict.Refused r) n = Refused r
+abbrev pub broken : Verdict × ℕ
+broken = table.answer targets (Refused BrokenTargets) 0
 
-unfoldable pub judgeTargets : List ℕ → Judged
-judgeTargets t = answer (lowest (judgeRules t)) (count t)
+abbrev pub judgeTargets : List ℕ → Verdict × ℕ
+judgeTargets = table.judge targets
 
 -- ---- the writer, of a list of locations and one of speeds
 
 abbrev pub targetOf : List ℕ → List ℕ → ℕ → Target
 targetOf locations speeds k = record { location = getD locations k 0; speed = getD speeds k 0 }
 
--- as many speeds as locations, and the rules
-unfoldable pub keptOf : List ℕ → List ℕ → Bool
-keptOf locations speeds = eqb (length speeds) (length locations) && kept (length locations) (targetOf locations speeds)
+abbrev pub bytesOf : ℕ → (ℕ → Target) → List ℕ
+bytesOf = table.bytesOf targets
 
--- 7: "writers refuse what the reader would, with its number"
-abbrev pub brokenOf : List ℕ → List ℕ → Bool
-brokenOf locations speeds = not (keptOf locations speeds)
+-- as many speeds as locations
+abbrev pub same : List ℕ → List ℕ → Bool
+same locations speeds = eqb (length speeds) (length locations)
 
--- the bytes of n records
-unfoldable pub bytesOf : ℕ → (ℕ → Target) → List ℕ
-bytesOf n f = table n (λ k. targetBytes (f k))
+abbrev pub keptOf : List ℕ → List ℕ → Bool
+keptOf locations speeds = table.keptOf targets (same locations speeds) (length locations) (targetOf locations speeds)
 
--- 12: output under what a writer writes
 abbrev pub writeRules : List ℕ → List ℕ → List ℕ → List Rule
-writeRules locations speeds out = (brokenOf locations speeds, BrokenTargets) ∷ (noRoom (size * length locations) out, NoRoom) ∷ []
+writeRules locations speeds = table.writeRules targets (same locations speeds) (length locations) (targetOf locations speeds)
 
--- "touching nothing, and never touch bytes past the record"
-unfoldable pub writeTargets : List ℕ → List ℕ → List ℕ → Verdict × List ℕ
-writeTargets locations speeds out = written (lowest (writeRules locations speeds out)) (bytesOf (length locations) (targetOf locations speeds)) out
+abbrev pub writeTargets : List ℕ → List ℕ → List ℕ → Verdict × List ℕ
+writeTargets locations speeds = table.write targets (same locations speeds) (length locations) (targetOf locations speeds)

@@ -1,15 +1,15 @@
 // The targets: records of 5 bytes, each a place and the speed asked for there.
 use refusal::Refusal;
+use refusal::Step;
 use refusal::Verdict;
 ghost use mathlib.Core.Path.{_≡_};
 ghost use mathlib.Core.Bool.{_&&_, _||_};
-ghost use Prim.Native.Nat.{_*_, _<_, _≤_};
-ghost use mathlib.Core.List.{_++_};
-ghost use lib.ListN.{length, drop};
+ghost use Prim.Native.Nat.{_<_};
+ghost use lib.ListN.{length};
 ghost use lib.Dec.{eqb, ltb};
-ghost use Rattle.bits.specs.Fields.{split, join};
-ghost use Rattle.bits.specs.Tables.{every};
-ghost use Rattle.targets.specs.Targets.{size, widths, fieldsOf, ofFields, count, recordAt, targetAt, targetOf, bytesOf, counted, inRange, good, keptIn, keptOf, judgeTargets, writeTargets};
+ghost use Rattle.bits.specs.Places.{putFrom};
+ghost use Rattle.refusal.specs.Number.{told};
+ghost use Rattle.targets.specs.Targets.{widths, fieldsOf, inRange, targetAt, broken, judgeTargets, targetOf, keptOf, writeTargets};
 
 pub struct Target {
     // feet
@@ -18,98 +18,73 @@ pub struct Target {
     pub speed: u16,
 }
 
-// What judging targets answers: how many records there are, or why they are refused.
-pub enum Judged {
-    Records(usize),
-    Refused(Refusal),
+impl Target {
+    // Bytes of a record.
+    pub const SIZE: usize = 5;
+    // The most records.
+    pub const MOST: usize = 8;
+
+    // The greatest location.
+    pub const FARTHEST: u32 = 4_000_000;
+    // The greatest speed.
+    pub const FASTEST: u16 = 10_000;
 }
 
-// Bytes a record.
-const SIZE: usize = 5;
-
-// Record k as one number; past the last whole record, zero.
-fn record_at(t: &[u8], k: usize) -> u64
-    ensures { λ r. ⌜ r ≡ recordAt (now (t .entry)) k ⌝ }
-{
-    if k < t.len() / SIZE {
-        let from = SIZE * k;
-        let to = from + SIZE;
-        bits::word(&t[from..to])
-    } else {
-        0
-    }
-}
-
-// The target that a record's number is.
-fn of_number(n: u64) -> Target
-    ensures { λ r. ⌜ r ≡ ofFields (split widths n) ⌝ }
-{
-    Target {
-        location: (n / 0x1_0000 % 0x100_0000) as u32,
-        speed: (n % 0x1_0000) as u16,
-    }
+// What judging targets answers: how many records there are; none where they are refused.
+pub struct Judged {
+    pub verdict: Verdict,
+    pub records: usize,
 }
 
 // Record k; past the last whole record, one of zeros.
 pub fn target_at(t: &[u8], k: usize) -> Target
     ensures { λ r. ⌜ r ≡ targetAt (now (t .entry)) k ⌝ }
 {
-    of_number(record_at(t, k))
-}
-
-// Whether there may be n targets.
-fn counts(n: usize) -> bool
-    ensures { λ r. ⌜ r ≡ counted n ⌝ }
-{
-    n <= 8
+    let s = table::record(t, Target::SIZE, k);
+    Target {
+        location: bits::field(s, 0, 24) as u32,
+        speed: bits::field(s, 24, 16) as u16,
+    }
 }
 
 // Whether a target may be record k, after one at `before`: it is in range, and lies beyond that.
 fn good_after(g: Target, k: usize, before: u32) -> bool
     ensures { λ r. ⌜ r ≡ (inRange g && (eqb k 0 || ltb before (g .location))) ⌝ }
 {
-    (g.location <= 4_000_000) & (g.speed <= 10_000) & ((k == 0) | (before < g.location))
+    (g.location <= Target::FARTHEST)
+        & (g.speed <= Target::FASTEST)
+        & ((k == 0) | (before < g.location))
 }
 
-// Whether every record is in range and lies beyond the one before it.
-fn records_good(t: &[u8]) -> bool
-    ensures { λ r. ⌜ r ≡ every (count (now (t .entry))) (good (targetAt (now (t .entry)))) ⌝ }
+fn refused() -> Judged
+    ensures { λ r. ⌜ (r .verdict, r .records) ≡ broken ⌝ }
 {
-    let n = t.len() / SIZE;
-    let mut before: u32 = 0;
-    let mut k: usize = 0;
-    while k < n {
-        let g = target_at(t, k);
-        if !good_after(g, k, before) {
-            return false;
-        }
-        before = g.location;
-        k += 1;
+    Judged {
+        verdict: Verdict::Refused(Refusal::BrokenTargets),
+        records: 0,
     }
-    true
-}
-
-// Whether bytes keep every rule of the targets.
-fn keeps(t: &[u8]) -> bool
-    ensures { λ r. ⌜ r ≡ keptIn (now (t .entry)) ⌝ }
-{
-    let n = t.len() / SIZE;
-    if t.len() % SIZE != 0 {
-        return false;
-    }
-    if !counts(n) {
-        return false;
-    }
-    records_good(t)
 }
 
 pub fn judge(t: &[u8]) -> Judged
-    ensures { λ r. ⌜ r ≡ judgeTargets (now (t .entry)) ⌝ }
+    ensures { λ r. ⌜ told (r .verdict, r .records) ≡ told (judgeTargets (now (t .entry))) ⌝ }
 {
-    if keeps(t) {
-        Judged::Records(t.len() / SIZE)
-    } else {
-        Judged::Refused(Refusal::BrokenTargets)
+    let n = t.len() / Target::SIZE;
+    let Step::On = refusal::unless(!((t.len() % Target::SIZE == 0) & (n <= Target::MOST))) else {
+        return refused();
+    };
+    let mut good = true;
+    let mut before: u32 = 0;
+    for k in 0..n {
+        let g = target_at(t, k);
+        good = good & good_after(g, k, before);
+        before = g.location;
+    }
+    let Step::On = refusal::unless(!good) else {
+        return refused();
+    };
+    Judged {
+        verdict: Verdict::Accepted,
+        records: n,
     }
 }
 
@@ -124,70 +99,46 @@ fn row_at(locations: &[u32], speeds: &[u16], k: usize) -> Target
     }
 }
 
-// Whether every record of two lists is in range and lies beyond the one before it.
-fn rows_good(locations: &[u32], speeds: &[u16]) -> bool
-    requires { ⌜ length (now speeds) ≡ length (now locations) ⌝ }
-    ensures { λ r. ⌜ r ≡ every (length (now (locations .entry))) (good (targetOf (now (locations .entry)) (now (speeds .entry)))) ⌝ }
-{
-    let mut before: u32 = 0;
-    let mut k: usize = 0;
-    while k < locations.len() {
-        let g = row_at(locations, speeds, k);
-        if !good_after(g, k, before) {
-            return false;
-        }
-        before = g.location;
-        k += 1;
-    }
-    true
-}
-
 // Whether two lists keep every rule of the targets.
 fn rows_keep(locations: &[u32], speeds: &[u16]) -> bool
     ensures { λ r. ⌜ r ≡ keptOf (now (locations .entry)) (now (speeds .entry)) ⌝ }
 {
     let n = locations.len();
-    if speeds.len() != n {
+    if !((speeds.len() == n) & (n <= Target::MOST)) {
         return false;
     }
-    if !counts(n) {
-        return false;
+    let mut good = true;
+    let mut before: u32 = 0;
+    for k in 0..n {
+        let g = row_at(locations, speeds, k);
+        good = good & good_after(g, k, before);
+        before = g.location;
     }
-    rows_good(locations, speeds)
+    good
 }
 
-// The number of a target's record.
-fn number_of(g: Target) -> u64
-    ensures { λ r. ⌜ r ≡ join widths (fieldsOf g) ⌝ }
+// Writes a target's record over the front of `out`.
+fn put(g: Target, out: &mut [u8])
+    ensures { λ _. ⌜ now (out .exit) ≡ putFrom 0 widths (fieldsOf g) (now (out .entry)) ⌝ }
 {
-    g.location as u64 * 0x1_0000 + g.speed as u64
-}
-
-// Writes the records of two lists to the front of `out`.
-fn put_rows(locations: &[u32], speeds: &[u16], out: &mut [u8])
-    requires { ⌜ (length (now speeds) ≡ length (now locations)) × (size * length (now locations) ≤ length (now out)) ⌝ }
-    ensures { λ _. ⌜ now (out .exit) ≡ bytesOf (length (now (locations .entry))) (targetOf (now (locations .entry)) (now (speeds .entry))) ++ drop (size * length (now (locations .entry))) (now (out .entry)) ⌝ }
-{
-    let mut k: usize = 0;
-    while k < locations.len() {
-        let at = SIZE * k;
-        let end = at + SIZE;
-        let w = number_of(row_at(locations, speeds, k));
-        bits::put_word(&mut out[at..end], w);
-        k += 1;
-    }
+    let widths = [24, 16];
+    let values = [g.location as u64, g.speed as u64];
+    bits::put_fields(out, 0, &widths, &values);
 }
 
 // Writes the records to the front of `out`, a record for each location and speed.
 pub fn write(locations: &[u32], speeds: &[u16], out: &mut [u8]) -> Verdict
-    ensures { λ r. ⌜ (r, now (out .exit)) ≡ writeTargets (now (locations .entry)) (now (speeds .entry)) (now (out .entry)) ⌝ }
+    ensures { λ r. ⌜ told (r, now (out .exit)) ≡ told (writeTargets (now (locations .entry)) (now (speeds .entry)) (now (out .entry))) ⌝ }
 {
-    if !rows_keep(locations, speeds) {
+    let Step::On = refusal::unless(!rows_keep(locations, speeds)) else {
         return Verdict::Refused(Refusal::BrokenTargets);
-    }
-    if out.len() < SIZE * locations.len() {
+    };
+    let Step::On = refusal::unless(out.len() < Target::SIZE * locations.len()) else {
         return Verdict::Refused(Refusal::NoRoom);
+    };
+    for k in 0..locations.len() {
+        let at = Target::SIZE * k;
+        put(row_at(locations, speeds, k), &mut out[at..]);
     }
-    put_rows(locations, speeds, out);
     Verdict::Accepted
 }

@@ -1,12 +1,12 @@
 -- The track's figures, computed. Assumes nothing.
 use mathlib.Core.Path.{refl}
 use Rattle.whole.specs.Floor.{floorDiv}
-use Rattle.profile.specs.Profile.{recordAt, segmentAt}
+use Rattle.table.proofs.Computing.{computing}
 use Rattle.track.specs.Track.{layOf, feet, gradeFeet, curveFeet, gradeUnder, curveUnder}
 use Rattle.track.specs.Figures.{Figures}
 
 pub figures : Figures
-unfolding floorDiv recordAt segmentAt layOf feet gradeFeet curveFeet gradeUnder curveUnder
+unfolding computing floorDiv layOf feet gradeFeet curveFeet gradeUnder curveUnder
 figures = record {
   dip-grade = refl;
   dip-curve = refl;

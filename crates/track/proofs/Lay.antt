@@ -5,11 +5,10 @@ use native.Mathlib.Nat.{le-trans, le-of-eq}
 use mathlib.Core.List.{List}
 use lib.ListN.{getD, List·getD-eq-default}
 use lib.IntN.{ℤ, pos}
-use borrow.Author.Tests.{le-ltb}
 use Rattle.profile.specs.declared.Segment.{Segment}
-use Rattle.profile.specs.Profile.{count, recordAt, segmentAt}
+use Rattle.profile.specs.Profile.{most, segmentAt}
 use Rattle.bits.specs.Tables.{upTo}
-use Rattle.track.specs.Track.{most, layOf, at}
+use Rattle.track.specs.Track.{layOf, at}
 use Rattle.bits.proofs.UpTo.{length-upTo, getD-upTo}
 
 -- a record of zeros
@@ -26,11 +25,6 @@ module _ (p : List ℕ) where
 
   abbrev pub curvatureAt : ℕ → ℕ
   curvatureAt k = segmentAt p k .curvature
-
-  -- past the last whole record
-  pub past : (k : ℕ) → count p ≤ k → segmentAt p k ≡ nothing
-  unfolding segmentAt recordAt
-  past k h = rw (le-ltb k (count p) h)
 
   pub lay-at : (k : ℕ) → k < most → at (layOf p) k ≡ segmentAt p k
   unfolding layOf

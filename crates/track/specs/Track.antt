@@ -6,17 +6,13 @@ use lib.IntN.{ℤ, pos, _+ℤ_, _*ℤ_}
 use Rattle.bits.specs.Tables.{upTo}
 use Rattle.whole.specs.Floor.{floorDiv}
 use Rattle.profile.specs.declared.Segment.{Segment}
-use Rattle.profile.specs.Profile.{count, segmentAt, segmentOf}
+use Rattle.profile.specs.Profile.{most, count, segmentAt, segmentOf}
 use Rattle.track.specs.declared.Track.{Track}
 use Rattle.track.specs.declared.Under.{Under}
 
 -- ---- a profile laid out
 
--- "2 to 257 records"
-abbrev pub most : ℕ
-most = 257
-
--- the profile that bytes are, of 257 records at most
+-- the profile that bytes are, of no more records than a profile may have
 unfoldable pub layOf : List ℕ → Track
 layOf p = record {
   count = min (count p) most;
@@ -45,7 +41,7 @@ unfoldable pub curveFeet : Track → ℕ → ℕ → ℕ → ℕ
 curveFeet t rear head zero = 0
 curveFeet t rear head (suc n) = curveFeet t rear head n + feet t rear head n * at t n .curvature
 
--- "The last only ends the profile": one segment fewer than records, of which there are 257 at most
+-- "The last only ends the profile": one segment fewer than records, and of these no more than a profile may have
 abbrev pub segments : Track → ℕ
 segments t = min (t .count) most - 1
 

@@ -1,25 +1,20 @@
 // A profile laid out as a track, and the average grade and curvature of the track under a train. Every public function answers for every input.
 // Assumes nothing.
-
+use profile::Segment;
 ghost use mathlib.Core.Path.{_≡_};
 ghost use Prim.Native.Nat.{_-_, _/_, _<_, min, max};
 ghost use lib.IntN.{pos};
 ghost use Rattle.whole.specs.Floor.{floorDiv};
-ghost use Rattle.track.specs.Track.{most, layOf, underOf};
+ghost use Rattle.profile.specs.Profile.{most};
+ghost use Rattle.track.specs.Track.{layOf, underOf};
 ghost use Rattle.track.specs.Steps.{trackOf, sumsUnder, Within, Plus};
-
-// Bytes a record.
-const SIZE: usize = 6;
-
-// As many records as a profile may have.
-const MOST: usize = 257;
 
 // A profile laid out: record k at place k of each array.
 pub struct Track {
     pub count: usize,
-    pub starts: [u32; MOST],
-    pub grades: [i16; MOST],
-    pub curvatures: [u16; MOST],
+    pub starts: [u32; Segment::MOST],
+    pub grades: [i16; Segment::MOST],
+    pub curvatures: [u16; Segment::MOST],
 }
 
 // G and C: the averages under a train.
@@ -38,7 +33,7 @@ struct Sums {
 fn records(n: usize) -> usize
     ensures { λ r. ⌜ r ≡ min n most ⌝ }
 {
-    if n < MOST { n } else { MOST }
+    if n < Segment::MOST { n } else { Segment::MOST }
 }
 
 impl Track {
@@ -46,10 +41,10 @@ impl Track {
     pub fn laid(p: &[u8]) -> Track
         ensures { λ r. ⌜ r ≡ layOf (now (p .entry)) ⌝ }
     {
-        let mut starts = [0u32; MOST];
-        let mut grades = [0i16; MOST];
-        let mut curvatures = [0u16; MOST];
-        let count = records(p.len() / SIZE);
+        let mut starts = [0u32; Segment::MOST];
+        let mut grades = [0i16; Segment::MOST];
+        let mut curvatures = [0u16; Segment::MOST];
+        let count = records(p.len() / Segment::SIZE);
         let mut k: usize = 0;
         while k < count {
             let next = k + 1;
@@ -136,9 +131,9 @@ impl Sums {
 // The sums over all segments. One that the train does not touch is passed by.
 fn sums_under<'a>(
     count: usize,
-    starts: &'a [u32; MOST],
-    grades: &'a [i16; MOST],
-    curvatures: &'a [u16; MOST],
+    starts: &'a [u32; Segment::MOST],
+    grades: &'a [i16; Segment::MOST],
+    curvatures: &'a [u16; Segment::MOST],
     rear: u32,
     head: u32,
 ) -> Sums
@@ -164,9 +159,9 @@ fn sums_under<'a>(
 // G and C. A track is given by its fields, so that its arrays are lent and not copied.
 pub fn under_train<'a>(
     count: usize,
-    starts: &'a [u32; MOST],
-    grades: &'a [i16; MOST],
-    curvatures: &'a [u16; MOST],
+    starts: &'a [u32; Segment::MOST],
+    grades: &'a [i16; Segment::MOST],
+    curvatures: &'a [u16; Segment::MOST],
     head: u32,
     length: u32,
 ) -> Under

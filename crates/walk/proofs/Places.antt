@@ -13,6 +13,7 @@ use borrow.Author.Tests.{eqb-true, eq-eqb, ne-eqb, leb-true, leb-false, lt-leb}
 use Rattle.whole.specs.Root.{rootOf}
 use Rattle.whole.proofs.Roots.{root-pos}
 use Rattle.consist.specs.declared.Consist.{Consist}
+use Rattle.targets.specs.Targets.{most}
 use Rattle.walk.specs.declared.Run.{Run}
 use Rattle.walk.specs.Step.{Ground, stepOf}
 use Rattle.walk.specs.Walk.{Place, at, never, fast, walkTo, start, placeFor, locationOf, isFast, predictOf}
@@ -81,13 +82,13 @@ pub record Walked (c : Consist) (force : ℕ → ℕ) (ground : Ground) (head v 
   pub steps : n ≤ 2048
   pub head-is : r .head ≡ head + 16 * n
   pub clock-most : r .clock ≤ n * timeMost
-  pub size : length places ≡ 8
+  pub size : length places ≡ most
   pub stop : placeFor c force ground head v 0 ≡ walkTo c force ground 0 (2048 - n) r
-  pub each : (i : ℕ) → i < 8 →
+  pub each : (i : ℕ) → i < most →
       let u = getD speeds i 0 in Sought c force ground u (locationOf (placeFor c force ground head v u)) (2048 - n) r (getD places i 0)
 
 pub walk-begins : (c : Consist) (force : ℕ → ℕ) (ground : Ground) (head v : ℕ) (speeds : List ℕ)
-    → Walked c force ground head v speeds 0 (start head v) (replicate 8 none)
+    → Walked c force ground head v speeds 0 (start head v) (replicate most none)
 unfolding placeFor
 walk-begins c force ground head v speeds =
     record {
@@ -96,11 +97,11 @@ walk-begins c force ground head v speeds =
       clock-most = omega arith;
       size = refl;
       stop = refl;
-      each = λ i h. record { is = rw (getD-replicate 8 i none 0 h) };
+      each = λ i h. record { is = rw (getD-replicate most i none 0 h) };
     }
 
 -- above every square that is open, nothing is marked
-pub unmarked : (r : Run) (speeds places : List ℕ) (next : ℕ) → length places ≡ 8 → Open speeds places next → next < r .q → Marked r speeds places places
+pub unmarked : (r : Run) (speeds places : List ℕ) (next : ℕ) → length places ≡ most → Open speeds places next → next < r .q → Marked r speeds places places
 unfolding markOf
 unmarked r speeds places next size opened h = record { size = size; each = λ i k. go (getD places i 0) (getD speeds i 0) (opened .below i k) }
   where
@@ -118,13 +119,13 @@ mapped f (u ∷ us) [] e h = absurd (omega arith)
 mapped f (u ∷ us) (p ∷ ps) e h = ap₂ _∷_ (h 0 (zero-lt-suc _)) (mapped f us ps (omega arith) (λ i k. h (suc i) (omega arith)))
 
 module _ {c : Consist} {force : ℕ → ℕ} {ground : Ground} {head v : ℕ} {speeds : List ℕ} {n : ℕ} {r : Run} {places : List ℕ}
-    (eight : length speeds ≡ 8) (w : Walked c force ground head v speeds n r places) where
+    (eight : length speeds ≡ most) (w : Walked c force ground head v speeds n r places) where
   abbrev pub Answers : Place → List ℕ → Type 0
   Answers p ps = predictionWith (isFast p) (locationOf p) ps ≡ predictOf c force ground head v speeds
 
   -- from the stop's place and from every other
-  answer : (p : Place) (ps : List ℕ) → length ps ≡ 8 → placeFor c force ground head v 0 ≡ p
-      → ((i : ℕ) → i < 8 → getD ps i 0 ≡ locationOf (placeFor c force ground head v (getD speeds i 0))) → Answers p ps
+  answer : (p : Place) (ps : List ℕ) → length ps ≡ most → placeFor c force ground head v 0 ≡ p
+      → ((i : ℕ) → i < most → getD ps i 0 ≡ locationOf (placeFor c force ground head v (getD speeds i 0))) → Answers p ps
   unfolding predictOf
   answer p ps size e h =
       ap₂ (λ (q : Place) (qs : List ℕ). predictionWith (isFast q) (locationOf q) qs) (sym e)

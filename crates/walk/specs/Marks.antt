@@ -1,10 +1,11 @@
--- How one pass keeps the locations for eight target speeds. Definitions only.
+-- How one pass keeps the locations for as many speeds as there may be targets. Definitions only.
 use mathlib.Core.Path.{_≡_}
 use mathlib.Core.Bool.{Bool, cond, _&&_}
 use mathlib.Core.List.{List}
 use Prim.Native.Nat.{ℕ, _*_, _≤_, _<_}
 use lib.Dec.{leb, eqb}
 use lib.ListN.{length, getD}
+use Rattle.targets.specs.Targets.{most}
 use Rattle.track.specs.declared.Under.{Under}
 use Rattle.walk.specs.declared.Run.{Run}
 use Rattle.walk.specs.declared.Prediction.{Prediction}
@@ -20,12 +21,12 @@ unfoldable pub markOf : Run → ℕ → ℕ → ℕ
 markOf r u place = cond (eqb place none && leb (r .q) (u * u)) (r .head) place
 
 pub record Marked (r : Run) (speeds before after : List ℕ) : Type 0 where
-  pub size : length after ≡ 8
-  pub each : (i : ℕ) → i < 8 → getD after i 0 ≡ markOf r (getD speeds i 0) (getD before i 0)
+  pub size : length after ≡ most
+  pub each : (i : ℕ) → i < most → getD after i 0 ≡ markOf r (getD speeds i 0) (getD before i 0)
 
 -- no place that is open is for a speed whose square is above `next`
 pub record Open (speeds places : List ℕ) (next : ℕ) : Type 0 where
-  pub below : (i : ℕ) → i < 8 → getD places i 0 ≡ none → getD speeds i 0 * getD speeds i 0 ≤ next
+  pub below : (i : ℕ) → i < most → getD places i 0 ≡ none → getD speeds i 0 * getD speeds i 0 ≤ next
 
 abbrev pub predictionWith : Bool → ℕ → List ℕ → Prediction
 predictionWith fast stop places = record { fast = fast; stop = stop; places = places }

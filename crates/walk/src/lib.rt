@@ -1,6 +1,8 @@
 // The walk: the train's predicted run, in steps of 16 ft, with the brakes applied from its start.
 // `force` and `predict` ask for the ranges of specs/Range.antt, in which every number fits its word.
 use consist::Consist;
+use profile::Segment;
+use targets::Target;
 use track::Track;
 use track::Under;
 ghost use mathlib.Core.Path.{_≡_};
@@ -37,7 +39,7 @@ pub struct Run {
 pub struct Prediction {
     pub fast: bool,
     pub stop: u32,
-    pub places: [u32; 8],
+    pub places: [u32; Target::MOST],
 }
 
 fn lesser(a: u64, b: u64) -> u64
@@ -170,12 +172,12 @@ fn mark(place: u32, speed: u16, run: Run) -> u32
     }
 }
 
-fn marked(places: [u32; 8], speeds: [u16; 8], run: Run) -> [u32; 8]
+fn marked(places: [u32; Target::MOST], speeds: [u16; Target::MOST], run: Run) -> [u32; Target::MOST]
     ensures { λ r. ⌜ Marked run speeds places r ⌝ }
 {
     let mut places = places;
     let mut i: usize = 0;
-    while i < 8 {
+    while i < Target::MOST {
         places[i] = mark(places[i], speeds[i], run);
         i += 1;
     }
@@ -194,19 +196,19 @@ fn raised(most: u64, place: u32, speed: u16) -> u64
 }
 
 // The q at which the next place is to be marked.
-fn next_mark(places: [u32; 8], speeds: [u16; 8]) -> u64
+fn next_mark(places: [u32; Target::MOST], speeds: [u16; Target::MOST]) -> u64
     ensures { λ r. ⌜ Open speeds places r ⌝ }
 {
     let mut most: u64 = 0;
     let mut i: usize = 0;
-    while i < 8 {
+    while i < Target::MOST {
         most = raised(most, places[i], speeds[i]);
         i += 1;
     }
     most
 }
 
-fn predicted(fast: bool, stop: u32, places: [u32; 8]) -> Prediction
+fn predicted(fast: bool, stop: u32, places: [u32; Target::MOST]) -> Prediction
     ensures { λ r. ⌜ r ≡ predictionWith fast stop places ⌝ }
 {
     Prediction { fast, stop, places }
@@ -227,19 +229,19 @@ fn pass<'a>(
     c: Consist,
     curve: Curve,
     count: usize,
-    starts: &'a [u32; 257],
-    grades: &'a [i16; 257],
-    curvatures: &'a [u16; 257],
+    starts: &'a [u32; Segment::MOST],
+    grades: &'a [i16; Segment::MOST],
+    curvatures: &'a [u16; Segment::MOST],
     head: u32,
     speed: u16,
-    speeds: [u16; 8],
+    speeds: [u16; Target::MOST],
 ) -> Prediction
     requires { ⌜ Walkable c curve (trackOf count (now starts) (now grades) (now curvatures)) head ⌝ }
     ensures { λ r. ⌜ r ≡ predictOf c (forceAt (c .rated) curve) (groundOf (trackOf count (now (starts .entry)) (now (grades .entry)) (now (curvatures .entry))) (c .length)) head speed speeds ⌝ }
 {
     let length = c.length as u32;
     let mut run = started(head, speed);
-    let mut places = [NONE; 8];
+    let mut places = [NONE; Target::MOST];
     let mut next = next_mark(places, speeds);
     let mut n: u32 = 0;
     loop {
@@ -270,7 +272,7 @@ pub fn predict(
     t: Track,
     head: u32,
     speed: u16,
-    speeds: [u16; 8],
+    speeds: [u16; Target::MOST],
 ) -> Prediction
     requires { ⌜ Walkable c curve t head ⌝ }
     ensures { λ r. ⌜ r ≡ predictOf c (forceAt (c .rated) curve) (groundOf t (c .length)) head speed speeds ⌝ }

@@ -1,139 +1,83 @@
 -- `consist::write` meets its contract: nothing is touched until every rule has passed. Assumes nothing.
-use mathlib.Core.Path.{_≡_, sym, ap, _∙_}
-use mathlib.Core.Bool.{false}
-use mathlib.Core.List.{List, _++_}
+use mathlib.Core.Path.{_≡_, refl, sym, ap, _∙_}
+use mathlib.Core.Bool.{true, false, not}
+use mathlib.Core.List.{List}
 use Prim.Native.Nat.{ℕ}
-use lib.ListN.{length, take, drop}
+use lib.ListN.{length, drop}
+use borrow.Author.Tests.{ltb-false}
 use denote.Ref.{now}
-use Rattle.bits.specs.Fields.{split}
-use Rattle.bits.specs.Bytes.{eights}
-use Rattle.refusal.specs.declared.Verdict.the-variants as verdict
-use Rattle.consist.specs.Consist.{outOfRange, tooLight}
-use Rattle.consist.specs.Steps.{highWord, lowWord}
-use Rattle.consist.proofs.Steps.{on-unless, off-unless, fits, words-put}
-use Rattle.consist.proofs.Answers.{write-range, write-light, write-room, write-accepted}
+use Rattle.bits.specs.Places.{putFrom}
+use Rattle.bits.proofs.Places.{put-all}
+use Rattle.refusal.specs.Written.{noRoom}
+use Rattle.refusal.specs.declared.Verdict.the-variants.{Accepted}
+use Rattle.refusal.specs.Number.{told}
+use Rattle.refusal.proofs.Steps.{on-unless, off-unless}
+use Rattle.consist.specs.Consist.{widths, fieldsOf, bytesOf, outOfRange, tooLight}
+use Rattle.consist.proofs.Answers.{write-is, fits}
 use borrow.Author.Needs.{needs}
-use native.Mathlib.Omega.{arith}
 use Rattle.consist.proofs.write.Statement.{statement}
 use Rattle.consist.proofs.write.Tie as tie
 
--- past the ranges the consist is the one that was passed
-past-range : (c : tie.After-c) → (outOfRange (c .before .before .before .before .args .c) ≡ false) × (c .c .given .0 .0 ≡ c .before .before .before .before .args .c)
-past-range c = on-unless _ _ _ (sym (c .c .given .1) ∙ c .before .before .ranged .ensures)
+-- past the ranges
+past-range : (c : tie.After-enum-told) → outOfRange (c .before .before .before .before .before .args .c) ≡ false
+past-range c = sym (ap not (c .before .before .before .in-range .ensures)) ∙ on-unless _ (sym (c .enum-told .given .1) ∙ c .before .before .unless .ensures)
 
--- and past the weight
-past-weight : (c : tie.After-c2) → (tooLight (c .before .before .before .before .before .before .before .before .args .c) ≡ false) × (c .c2 .given .0 .0 ≡ c .before .before .before .before .before .before .before .before .args .c)
-past-weight c =
-    let r = past-range (c .before .before .before .before) in
-    let w = on-unless _ _ _ (sym (c .c2 .given .1) ∙ c .before .before .weighed .ensures) in
-    (ap tooLight (sym (r .1)) ∙ w .0, w .1 ∙ r .1)
-
-ranged-requires : tie.Need-ranged-requires
-ranged-requires c κs = search needs
-
-enum-known-c : tie.Need-enum-known-c
-enum-known-c c = search needs
-
-enum-told : tie.Need-enum-told
-enum-told c = search needs
+-- past the weight
+past-weight : (c : tie.After-enum-told3) → tooLight (c .before .before .before .before .before .before .before .before .before .args .c) ≡ false
+past-weight c = sym (c .before .before .before .too-light .ensures) ∙ on-unless _ (sym (c .enum-told3 .given .1) ∙ c .before .before .unless2 .ensures)
 
 returns : tie.Need-returns
-returns c = sym (write-range _ _ (off-unless _ _ (sym (c .enum-told .given .1) ∙ c .before .before .ranged .ensures)))
-
-weighed-requires : tie.Need-weighed-requires
-weighed-requires c κs = search needs
-
-enum-known-c-2 : tie.Need-enum-known-c-2
-enum-known-c-2 c = search needs
-
-enum-told-2 : tie.Need-enum-told-2
-enum-told-2 c = search needs
+returns c =
+    let r = sym (ap not (c .before .before .before .in-range .ensures)) ∙ off-unless _ (sym (c .enum-told2 .given .1) ∙ c .before .before .unless .ensures) in
+    ap told (sym (write-is _ _ true _ _ r refl refl))
 
 returns-2 : tie.Need-returns-2
 returns-2 c =
-    let r = past-range (c .before .before .before .before) in
-    sym (write-light _ _ (r .0) (ap tooLight (sym (r .1)) ∙ off-unless _ _ (sym (c .enum-told2 .given .1) ∙ c .before .before .weighed .ensures)))
+    let w = sym (c .before .before .before .too-light .ensures) ∙ off-unless _ (sym (c .enum-told4 .given .1) ∙ c .before .before .unless2 .ensures) in
+    ap told (sym (write-is _ _ false true _ (past-range (c .before .before .before .before)) w refl))
 
 returns-3 : tie.Need-returns-3
-returns-3 c = sym (write-room _ _ (past-range (c .before .before .before .before .before .before) .0) (past-weight (c .before .before) .0) (omega arith))
-
-high-word-requires : tie.Need-high-word-requires
-high-word-requires c κs =
-    let r = past-range (c .before .before .before .before .before .before) in
-    let w = past-weight (c .before .before) in
-    fits (c .before .before .c2 .given .0 .0) (ap outOfRange (w .1) ∙ r .0)
-
-low-word-requires : tie.Need-low-word-requires
-low-word-requires c κs =
-    let r = past-range (c .before .before .before .before .before .before .before) in
-    let w = past-weight (c .before .before .before) in
-    fits (c .before .before .before .c2 .given .0 .0) (ap outOfRange (w .1) ∙ r .0)
-
-sub-put-word : tie.Need-sub-put-word
-sub-put-word c = search needs
-
-part-put-word-start : tie.Need-part-put-word-start
-part-put-word-start c = search needs
-
-part-put-word-end : tie.Need-part-put-word-end
-part-put-word-end c = search needs
-
-put-word-requires : tie.Need-put-word-requires
-put-word-requires c κs = search needs
-
-sub-put-word-2 : tie.Need-sub-put-word-2
-sub-put-word-2 c = search needs
-
-part-put-word-start-2 : tie.Need-part-put-word-start-2
-part-put-word-start-2 c = search needs
-
-part-put-word-end-2 : tie.Need-part-put-word-end-2
-part-put-word-end-2 c = search needs
-
-put-word-requires-2 : tie.Need-put-word-requires-2
-put-word-requires-2 c κs = search needs
-
-same-length : tie.Need-same-length
-same-length c = search needs
+unfolding noRoom
+returns-3 c =
+    ap told
+    (sym
+    (write-is _ _ false false true (past-range (c .before .before .before .before .before .before .before)) (past-weight (c .before .before .before))
+    (off-unless _ (sym (c .enum-told6 .given .1) ∙ c .before .before .unless3 .ensures))))
 
 returns-4 : tie.Need-returns-4
+unfolding noRoom bytesOf
 returns-4 c =
-    let start = c .before .before .before .before .before .before .before .before .before .before .before .before .before .before .before .before .before .before .before .before in
-    let r = past-range (c .before .before .before .before .before .before .before .before .before .before .before .before .before .before .before .before) in
-    let w = past-weight (c .before .before .before .before .before .before .before .before .before .before .before .before) in
-    let room = c .before .before .before .before .before .before .before .before .before .before .if1 .left in
-    let high = c .before .before .before .before .before .before .before .before .before .high-word .ensures ∙ ap highWord (w .1) in
-    let low = c .before .before .before .before .before .before .before .before .low-word .ensures ∙ ap lowWord (w .1) in
-    let xs = now (start .args .out) in
-    let ys = c .before .before .before .before .before .before .put-word .last .0 in
-    ap (λ (o : List ℕ). (verdict.Accepted, o))
-    (words-put (start .args .c) xs ys (c .before .before .put-word2 .last .0) (fits (start .args .c) (r .0)) room
-    (c .before .before .before .before .before .before .put-word .ensures ∙ ap (λ (n : ℕ). split (eights (length (take 8 xs))) n) high)
-    (c .before .before .put-word2 .ensures ∙ ap (λ (n : ℕ). split (eights (length (take 8 (drop 8 (ys ++ drop 8 xs))))) n) low))
-    ∙ sym (write-accepted (start .args .c) xs (r .0) (w .0) room)
+    let start = c .before .before .before .before .before .before .before .before .before .before .before .before .before .before .before .before .before .before .before in
+    let x = start .before .args .c in
+    let out = now (start .before .args .out) in
+    let r = past-range (c .before .before .before .before .before .before .before .before .before .before .before .before .before .before .before) in
+    let o : noRoom 16 out ≡ false = on-unless _ (sym (c .before .before .before .before .before .before .before .before .enum-told5 .given .1) ∙ c .before .before .before .before .before .before .before .before .before .before .unless3 .ensures) in
+    ap told
+    (ap (λ (l : List ℕ). (Accepted, l))
+    (c .before .before .put-back .ensures
+    ∙ ap (putFrom 74 (drop 5 widths) (drop 5 (fieldsOf x))) (c .before .before .before .before .before .before .put-front .ensures)
+    ∙ put-all 16 widths (fieldsOf x) out tt refl (fits x r) (λ i. start .slice-known .given i .fits) (ltb-false (length out) 16 o))
+    ∙ sym (write-is x out false false false r (past-weight (c .before .before .before .before .before .before .before .before .before .before .before)) o))
 
 pub write-spec : {M : Type 1} → statement M
 write-spec =
     tie.close
     (tie.spec
-    ranged-requires
-    enum-known-c
-    enum-told
+    (λ c κs. search needs)
+    (λ c κs. search needs)
+    (λ c. search needs)
+    (λ c. search needs)
     returns
-    weighed-requires
-    enum-known-c-2
-    enum-told-2
+    (λ c κs. search needs)
+    (λ c κs. search needs)
+    (λ c. search needs)
+    (λ c. search needs)
     returns-2
+    (λ c κs. search needs)
+    (λ c. search needs)
+    (λ c. search needs)
     returns-3
-    high-word-requires
-    low-word-requires
-    sub-put-word
-    part-put-word-start
-    part-put-word-end
-    put-word-requires
-    sub-put-word-2
-    part-put-word-start-2
-    part-put-word-end-2
-    put-word-requires-2
-    same-length
+    (λ c κs. search needs)
+    (λ c κs. search needs)
+    (λ c. search needs)
     returns-4)

@@ -1,97 +1,94 @@
 -- `decision::read` meets its contract: the steps' answers decide the rules one after the other. Assumes nothing.
-use mathlib.Core.Path.{_≡_, sym, ap, _∙_}
-use mathlib.Core.Bool.{false}
+use mathlib.Core.Path.{_≡_, refl, sym, ap, _∙_}
+use mathlib.Core.Bool.{true, false, not}
+use mathlib.Core.List.{List}
 use Prim.Native.Nat.{ℕ}
+use native.Mathlib.Omega.{arith}
+use lib.Dec.{eqb}
+use lib.ListN.{length, getD}
+use borrow.Author.Tests.{eqb-true, not-false}
 use denote.Ref.{now}
-use Rattle.bits.specs.Fields.{split}
-use Rattle.bits.specs.Bytes.{fieldsIn, num}
-use Rattle.decision.specs.Decision.{widths, ofFields, decisionIn, wrongLength, wrongMark, outOfRange}
-use Rattle.decision.specs.declared.Answer.the-variants.{Accepted}
-use Rattle.decision.proofs.Steps.{on-unless, off-unless, no-word, word-read}
-use Rattle.decision.proofs.Answers.{read-length, read-mark, read-range, read-accepted}
+use Rattle.bits.specs.Bytes.{fieldsIn}
+use Rattle.bits.specs.Places.{fieldsFrom}
+use Rattle.bits.proofs.Places.{fields-from}
+use Rattle.refusal.specs.declared.Verdict.the-variants.{Accepted}
+use Rattle.refusal.specs.Number.{told}
+use Rattle.refusal.proofs.Steps.{on-unless, off-unless}
+use Rattle.record.specs.Record.{wrongLength}
+use Rattle.decision.specs.Decision.{mark, widths, ofFields, decisionIn, wrongMark, outOfRange, answer}
+use Rattle.decision.proofs.Answers.{read-is}
 use borrow.Author.Needs.{needs}
 use Rattle.decision.proofs.read.Statement.{statement}
 use Rattle.decision.proofs.read.Tie as tie
 
--- past the length: the word is what the bytes are
-past-length : (c : tie.After-w)
-    → (wrongLength (now (c .before .before .before .before .args .s)) ≡ false) × (c .w .given .0 .0 ≡ num (now (c .before .before .before .before .args .s)))
-past-length c = word-read _ _ (sym (c .w .given .1) ∙ c .before .before .word-of .ensures)
+-- past the length: the fields that are read are those of the record
+past-length : (c : tie.After-enum-told) → (wrongLength 8 (now (c .before .before .before .before .args .s)) ≡ false) × (fieldsFrom 0 widths (now (c .before .before .before .before .args .s)) ≡ fieldsIn widths (now (c .before .before .before .before .args .s)))
+unfolding wrongLength
+past-length c =
+    let s = now (c .before .before .before .before .args .s) in
+    let l = on-unless _ (sym (c .enum-told .given .1) ∙ c .before .before .unless .ensures) in
+    (l, fields-from 0 widths s tt (omega (arith, eqb-true (length s) 8 (not-false (eqb (length s) 8) l))))
 
--- past the mark: what is read is what the bytes stand for
-past-mark : (c : tie.After-d)
-    → (wrongMark (fieldsIn widths (now (c .before .before .before .before .before .before .before .before .args .s))) ≡ false)
-    × (c .d .given .0 .0 ≡ decisionIn (now (c .before .before .before .before .before .before .before .before .args .s)))
-unfolding decisionIn
+-- past the mark
+past-mark : (c : tie.After-enum-told3) → wrongMark (fieldsIn widths (now (c .before .before .before .before .before .before .before .before .args .s))) ≡ false
+unfolding wrongMark
 past-mark c =
-    let n = past-length (c .before .before .before .before) .1 in
-    let m = on-unless _ _ _ (sym (c .d .given .1) ∙ c .before .before .marked .ensures) in
-    (ap (λ (x : ℕ). wrongMark (split widths x)) (sym n) ∙ m .0, m .1 ∙ ap (λ (x : ℕ). ofFields (split widths x)) n)
-
-word-of-requires : tie.Need-word-of-requires
-word-of-requires c κs = search needs
-
-enum-known-w : tie.Need-enum-known-w
-enum-known-w c = search needs
-
-enum-told : tie.Need-enum-told
-enum-told c = search needs
+    let l = past-length (c .before .before .before .before) in
+    ap (λ (fs : List ℕ). not (eqb (getD fs 0 0) mark)) (sym (l .1))
+    ∙ ap (λ (x : ℕ). not (eqb x mark)) (sym (c .before .before .before .field .ensures .0))
+    ∙ on-unless _ (sym (c .enum-told3 .given .1) ∙ c .before .before .unless2 .ensures)
 
 returns : tie.Need-returns
-returns c = sym (read-length _ (no-word _ (sym (c .enum-told .given .1) ∙ c .before .before .word-of .ensures)))
-
-marked-requires : tie.Need-marked-requires
-marked-requires c κs = search needs
-
-enum-known-d : tie.Need-enum-known-d
-enum-known-d c = search needs
-
-enum-told-2 : tie.Need-enum-told-2
-enum-told-2 c = search needs
+unfolding wrongLength
+returns c =
+    ap told (c .refused .ensures ∙ sym (read-is _ true _ _ (off-unless _ (sym (c .before .enum-told2 .given .1) ∙ c .before .before .before .unless .ensures)) refl refl))
 
 returns-2 : tie.Need-returns-2
+unfolding wrongMark
 returns-2 c =
-    let l = past-length (c .before .before .before .before) in
-    let m = off-unless _ _ (sym (c .enum-told2 .given .1) ∙ c .before .before .marked .ensures) in
-    sym (read-mark _ (l .0) (ap (λ (x : ℕ). wrongMark (split widths x)) (sym (l .1)) ∙ m))
-
-ranged-requires : tie.Need-ranged-requires
-ranged-requires c κs = search needs
-
-enum-known-d-2 : tie.Need-enum-known-d-2
-enum-known-d-2 c = search needs
-
-enum-told-3 : tie.Need-enum-told-3
-enum-told-3 c = search needs
+    let l = past-length (c .before .before .before .before .before) in
+    let m =
+    ap (λ (fs : List ℕ). not (eqb (getD fs 0 0) mark)) (sym (l .1))
+    ∙ ap (λ (x : ℕ). not (eqb x mark)) (sym (c .before .before .before .before .field .ensures .0))
+    ∙ off-unless _ (sym (c .before .enum-told4 .given .1) ∙ c .before .before .before .unless2 .ensures) in
+    ap told (c .refused2 .ensures ∙ sym (read-is _ false true _ (l .0) m refl))
 
 returns-3 : tie.Need-returns-3
+unfolding decisionIn
 returns-3 c =
-    let l = past-length (c .before .before .before .before .before .before .before .before) in
-    let m = past-mark (c .before .before .before .before) in
-    let r = off-unless _ _ (sym (c .enum-told3 .given .1) ∙ c .before .before .ranged .ensures) in
-    sym (read-range _ (l .0) (m .0) (ap outOfRange (sym (m .1)) ∙ r))
+    let l = past-length (c .before .before .before .before .before .before .before .before .before .before) in
+    let d = c .before .before .before .before .before .of-bytes .ensures ∙ ap ofFields (l .1) in
+    let r = sym (c .before .before .before .before .out-of-range .ensures ∙ ap outOfRange d) ∙ off-unless _ (sym (c .before .enum-told6 .given .1) ∙ c .before .before .before .unless3 .ensures) in
+    ap told (c .refused3 .ensures ∙ sym (read-is _ false false true (l .0) (past-mark (c .before .before .before .before .before .before)) r))
 
 returns-4 : tie.Need-returns-4
+unfolding decisionIn
 returns-4 c =
     let l = past-length (c .before .before .before .before .before .before .before .before .before) in
-    let m = past-mark (c .before .before .before .before .before) in
-    let r = on-unless _ _ _ (sym (c .before .d2 .given .1) ∙ c .before .before .before .ranged .ensures) in
-    sym (read-accepted _ (l .0) (m .0) (ap outOfRange (sym (m .1)) ∙ r .0) ∙ ap Accepted (sym (r .1 ∙ m .1)))
+    let d = c .before .before .before .before .of-bytes .ensures ∙ ap ofFields (l .1) in
+    let r = sym (c .before .before .before .out-of-range .ensures ∙ ap outOfRange d) ∙ on-unless _ (sym (c .enum-told5 .given .1) ∙ c .before .before .unless3 .ensures) in
+    ap told (ap (answer Accepted) d ∙ sym (read-is _ false false false (l .0) (past-mark (c .before .before .before .before .before)) r))
 
 pub read-spec : {M : Type 1} → statement M
 read-spec =
     tie.close
     (tie.spec
-    word-of-requires
-    enum-known-w
-    enum-told
+    (λ c κs. search needs)
+    (λ c. search needs)
+    (λ c. search needs)
+    (λ c κs. search needs)
     returns
-    marked-requires
-    enum-known-d
-    enum-told-2
+    (λ c κs. search needs)
+    (λ c κs. search needs)
+    (λ c. search needs)
+    (λ c. search needs)
+    (λ c κs. search needs)
     returns-2
-    ranged-requires
-    enum-known-d-2
-    enum-told-3
+    (λ c κs. search needs)
+    (λ c κs. search needs)
+    (λ c κs. search needs)
+    (λ c. search needs)
+    (λ c. search needs)
+    (λ c κs. search needs)
     returns-3
     returns-4)

@@ -11,37 +11,16 @@ Inv-loop i₀ i-end i = Unit {0}
 abbrev μ-loop : tie.MeasureT-loop
 μ-loop i₀ i-end i = i-end - i
 
-arg-count-requires : tie.Need-arg-count-requires Inv-loop μ-loop
-arg-count-requires c κs = tt
-
-loop-holds : tie.Need-loop-holds Inv-loop μ-loop
-loop-holds c = tt
-
-run-one-requires : tie.Need-run-one-requires Inv-loop μ-loop
-run-one-requires c κs = tt
-
-add-i : tie.Need-add-i Inv-loop μ-loop
-add-i c = omega arith
-
-loop-less : tie.Need-loop-less Inv-loop μ-loop
-loop-less c = omega arith
-
-loop-again : tie.Need-loop-again Inv-loop μ-loop
-loop-again c = tt
-
-returns : tie.Need-returns Inv-loop μ-loop
-returns c = tt
-
 pub main-spec : {M : Type 1} → statement M
 main-spec =
     tie.close
     (tie.spec
     Inv-loop
     μ-loop
-    arg-count-requires
-    loop-holds
-    run-one-requires
-    add-i
-    loop-less
-    loop-again
-    returns)
+    (λ c κs. tt)
+    (λ c. tt)
+    (λ c κs. tt)
+    (λ c. omega arith)
+    (λ c. omega arith)
+    (λ c. tt)
+    (λ c. tt))

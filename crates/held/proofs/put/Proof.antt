@@ -1,109 +1,71 @@
--- `held::put` meets its contract. Assumes nothing.
-use mathlib.Core.Path.{ap}
-use mathlib.Core.List.{List}
-use Prim.Native.Nat.{ℕ}
+-- `held::put` meets its contract: the fields, the consist's record and the check word, one after the other. Assumes nothing.
+use mathlib.Core.Path.{_≡_, refl, ap, ap₂, _∙_}
+use Prim.Native.Nat.{ℕ, _≤_}
+use native.Mathlib.Omega.{arith}
+use mathlib.Core.Bool.{true, false}
+use mathlib.Core.List.{List, _++_, append-nil}
+use lib.ListN.{length, take, drop, length-take, length-drop, drop-of-length-le}
+use lib.Seq.{drop-drop}
+use borrow.Author.Tests.{le-ltb}
 use denote.Ref.{now}
-use Rattle.refusal.specs.declared.Verdict.{Verdict}
-use Rattle.held.proofs.Words.{words-put}
+use Rattle.bits.specs.Bytes.{Bytes, bytesFrom}
+use Rattle.bits.specs.Places.{putFrom}
+use Rattle.bits.proofs.Parts.{put-part}
+use Rattle.bits.proofs.Places.{put-all}
+use Rattle.refusal.specs.Written.{noRoom}
+use Rattle.seal.specs.Seal.{resealed}
+use Rattle.seal.proofs.Seals.{resealed-over}
+use Rattle.consist.specs.Consist as consist
+use Rattle.consist.proofs.Answers as consist-answers
+use Rattle.consist.proofs.Sound as consist-sound
+use Rattle.session.specs.declared.Session.{Session}
+use Rattle.session.specs.Session.{isOpen}
+use Rattle.session.proofs.Admitted.{opened}
+use Rattle.held.specs.Held.{widths, backWidths, fieldsOf, backOf, bytesOf}
+use Rattle.held.proofs.RoundTrip.{fits}
 use borrow.Author.Needs.{needs}
 use Rattle.held.proofs.put.Statement.{statement}
 use Rattle.held.proofs.put.Tie as tie
 
-first-word-requires : tie.Need-first-word-requires
-first-word-requires c κs = search needs
+module _ (x : Session) (o : isOpen x ≡ true) where
+  -- the consist's record fills 16 bytes
+  consist-put : (t : List ℕ) → length t ≡ 16 → consist.writeConsist (x .consist) t .1 ≡ consist.bytesOf (x .consist)
+  unfolding noRoom consist.bytesOf
+  consist-put t e =
+      let c = consist-sound.is-sound (x .consist) (opened x o .tested) in
+      (λ i. consist-answers.write-is (x .consist) t false false false (c .0) (c .1) (le-ltb (length t) 16 (omega (arith, e))) i .1)
+      ∙ (λ i. consist.bytesOf (x .consist) ++ drop-of-length-le t {i = 16} (omega (arith, e)) i)
+      ∙ append-nil (consist.bytesOf (x .consist))
 
-second-word-requires : tie.Need-second-word-requires
-second-word-requires c κs = search needs
-
-third-word-requires : tie.Need-third-word-requires
-third-word-requires c κs = search needs
-
-sub-put-word : tie.Need-sub-put-word
-sub-put-word c = search needs
-
-part-put-word-start : tie.Need-part-put-word-start
-part-put-word-start c = search needs
-
-part-put-word-end : tie.Need-part-put-word-end
-part-put-word-end c = search needs
-
-put-word-requires : tie.Need-put-word-requires
-put-word-requires c κs = search needs
-
-sub-put-word-2 : tie.Need-sub-put-word-2
-sub-put-word-2 c = search needs
-
-part-put-word-start-2 : tie.Need-part-put-word-start-2
-part-put-word-start-2 c = search needs
-
-part-put-word-end-2 : tie.Need-part-put-word-end-2
-part-put-word-end-2 c = search needs
-
-put-word-requires-2 : tie.Need-put-word-requires-2
-put-word-requires-2 c κs = search needs
-
-sub-put-word-3 : tie.Need-sub-put-word-3
-sub-put-word-3 c = search needs
-
-part-put-word-start-3 : tie.Need-part-put-word-start-3
-part-put-word-start-3 c = search needs
-
-part-put-word-end-3 : tie.Need-part-put-word-end-3
-part-put-word-end-3 c = search needs
-
-put-word-requires-3 : tie.Need-put-word-requires-3
-put-word-requires-3 c κs = search needs
-
-sub-write : tie.Need-sub-write
-sub-write c = search needs
-
-part-write-start : tie.Need-part-write-start
-part-write-start c = search needs
-
-part-write-end : tie.Need-part-write-end
-part-write-end c = search needs
-
-write-requires : tie.Need-write-requires
-write-requires c κs = search needs
-
-same-length : tie.Need-same-length
-same-length c = search needs
+  all-put : (out fields behind whole : List ℕ) → Bytes out → 40 ≤ length out → fields ≡ putFrom 0 widths (fieldsOf x) out
+      → behind ≡ consist.writeConsist (x .consist) (take 16 (drop 20 fields)) .1
+      → whole ≡ resealed (take 40 (take 20 fields ++ (behind ++ drop 16 (drop 20 fields))))
+      → whole ++ drop 40 (take 20 fields ++ (behind ++ drop 16 (drop 20 fields))) ≡ bytesOf x ++ drop 40 out
+  unfolding bytesOf consist.bytesOf
+  all-put out fields behind whole b room f c w =
+      let own = bytesFrom 20 widths (fieldsOf x) in
+      let first : fields ≡ own ++ drop 20 out = f ∙ put-all 20 widths (fieldsOf x) out tt refl (fits x o) b (omega arith) in
+      let l : length (take 16 (drop 20 fields)) ≡ 16 = rw (ap (drop 20) first) (simp (length-take, length-drop) (omega arith)) in
+      let both = put-part out own fields 20 refl first behind 16 ∙ (λ i. (own ++ (c ∙ consist-put (take 16 (drop 20 fields)) l) i) ++ drop 36 out) in
+      let seal = resealed-over (own ++ consist.bytesOf (x .consist)) (take 4 (drop 36 out)) (simp (length-take, length-drop) (omega arith)) in
+      ap₂ _++_ (w ∙ (λ i. resealed (take 40 (both i))) ∙ seal) (ap (drop 40) both ∙ drop-drop 4 36 out)
 
 returns : tie.Need-returns
 returns c =
-    let made = c .before .before .before .before .before .before .before .before .before .before .before .before .before .before .before .before in
-    let start = made .before .before .before .before .before .before in
-    words-put (start .args .x) (start .pre .0) (now (start .args .out)) _ _ _ _ _ _ _ (start .pre .1)
-    (made .before .before .first-word .ensures)
-    (made .before .second-word .ensures)
-    (made .third-word .ensures)
-    (c .before .before .before .before .before .before .before .before .before .before .before .before .before .before .put-word .ensures)
-    (c .before .before .before .before .before .before .before .before .before .before .put-word2 .ensures)
-    (c .before .before .before .before .before .before .put-word3 .ensures)
-    (ap (λ (p : Verdict × List ℕ). p .1) (c .before .before .write .ensures))
+    let written = c .before .before .before .before .before .before in
+    let back = written .before .before .before .before in
+    let front = back .before .before .before .before in
+    let start = front .before .before .before .before in
+    let a = start .before .args in
+    all-put (a .x) (start .before .pre .0) (now (a .out)) _ _ _ (λ i. start .slice-known .given i .fits) (start .before .pre .1)
+    (back .put-back .ensures ∙ ap (putFrom 56 backWidths (backOf (a .x .brake))) (front .put-front .ensures))
+    (λ i. written .write .ensures i .1)
+    (c .before .before .put-check-word .ensures)
 
 pub put-spec : {M : Type 1} → statement M
 put-spec =
     tie.close
     (tie.spec
-    first-word-requires
-    second-word-requires
-    third-word-requires
-    sub-put-word
-    part-put-word-start
-    part-put-word-end
-    put-word-requires
-    sub-put-word-2
-    part-put-word-start-2
-    part-put-word-end-2
-    put-word-requires-2
-    sub-put-word-3
-    part-put-word-start-3
-    part-put-word-end-3
-    put-word-requires-3
-    sub-write
-    part-write-start
-    part-write-end
-    write-requires
-    same-length
+    (λ c κs. search needs) (λ c κs. search needs) (λ c. search needs) (λ c. search needs) (λ c. search needs) (λ c κs. search needs)
+    (λ c. search needs) (λ c. search needs) (λ c. search needs) (λ c κs. search needs) (λ c. search needs)
     returns)

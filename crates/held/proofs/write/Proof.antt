@@ -1,41 +1,48 @@
 -- `held::write` meets its contract: nothing is touched until both rules have passed. Assumes nothing.
-use mathlib.Core.Path.{_≡_, sym, ap, _∙_}
-use mathlib.Core.Bool.{true}
-use mathlib.Core.List.{List}
-use Prim.Native.Nat.{ℕ}
-use native.Mathlib.Omega.{arith}
-use Rattle.refusal.specs.declared.Verdict.the-variants as verdict
+use mathlib.Core.Path.{_≡_, refl, sym, ap, _∙_}
+use Prim.Native.Nat.{_≤_}
+use mathlib.Core.Bool.{true, false, not}
+use lib.ListN.{length}
+use borrow.Author.Tests.{ltb-false, not-false}
+use denote.Ref.{now}
+use Rattle.refusal.specs.Number.{told}
+use Rattle.refusal.specs.Written.{noRoom}
+use Rattle.refusal.specs.declared.Verdict.the-variants.{Accepted}
+use Rattle.refusal.proofs.Steps.{on-unless, off-unless}
 use Rattle.session.specs.Session.{isOpen}
-use Rattle.held.proofs.Answers.{write-closed, write-room, write-accepted}
-use borrow.Author.Tests.{not-true, not-false}
+use Rattle.held.proofs.Answers.{write-is, write-accepted}
 use borrow.Author.Needs.{needs}
 use Rattle.held.proofs.write.Statement.{statement}
 use Rattle.held.proofs.write.Tie as tie
 
 -- past the first rule
-past-open : (c : tie.Else1) → isOpen (c .before .before .before .args .x) ≡ true
-past-open c = sym (c .before .is-open .ensures) ∙ not-false _ (c .if1 .left)
+past-open : (c : tie.After-enum-told) → isOpen (c .before .before .before .before .before .args .x) ≡ true
+past-open c = sym (c .before .before .before .is-open .ensures) ∙ not-false _ (on-unless _ (sym (c .enum-told .given .1) ∙ c .before .before .unless .ensures))
 
-is-open-requires : tie.Need-is-open-requires
-is-open-requires c κs = search needs
+-- past the second
+past-room : (c : tie.After-enum-told3) → 40 ≤ length (now (c .before .before .before .before .before .before .before .before .args .out))
+past-room c = ltb-false _ 40 (on-unless _ (sym (c .enum-told3 .given .1) ∙ c .before .before .unless2 .ensures))
 
 returns : tie.Need-returns
-returns c = sym (write-closed _ _ (sym (c .before .is-open .ensures) ∙ not-true _ (c .if1 .taken)))
+returns c =
+    let closed = ap not (sym (c .before .before .before .is-open .ensures)) ∙ off-unless _ (sym (c .enum-told2 .given .1) ∙ c .before .before .unless .ensures) in
+    ap told (sym (write-is _ _ true _ closed refl))
 
 returns-2 : tie.Need-returns-2
-returns-2 c = sym (write-room _ _ (past-open (c .before)) (omega arith))
-
-put-requires : tie.Need-put-requires
-put-requires c κs = (past-open (c .before .before), omega arith)
-
-same-length : tie.Need-same-length
-same-length c = search needs
+unfolding noRoom
+returns-2 c =
+    let full = off-unless _ (sym (c .enum-told4 .given .1) ∙ c .before .before .unless2 .ensures) in
+    ap told (sym (write-is _ _ false true (ap not (past-open (c .before .before .before))) full))
 
 returns-3 : tie.Need-returns-3
 returns-3 c =
-    ap (λ (o : List ℕ). (verdict.Accepted, o)) (c .before .before .put .ensures)
-    ∙ sym (write-accepted _ _ (past-open (c .before .before .before .before .before)) (c .before .before .before .before .if2 .left))
+    let room = c .before .before .before .before in
+    ap told ((λ i. (Accepted, c .before .before .put .ensures i)) ∙ sym (write-accepted _ _ (past-open (room .before .before .before)) (past-room room)))
 
 pub write-spec : {M : Type 1} → statement M
 write-spec =
-    tie.close (tie.spec is-open-requires returns returns-2 put-requires same-length returns-3)
+    tie.close
+    (tie.spec
+    (λ c κs. search needs) (λ c κs. search needs) (λ c. search needs) (λ c. search needs) returns
+    (λ c κs. search needs) (λ c. search needs) (λ c. search needs) returns-2
+    (λ c κs. (past-open (c .before .before .before .before), past-room (c .before))) (λ c. search needs) returns-3)

@@ -7,6 +7,7 @@ use Prim.Native.Nat.{ℕ, suc, _+_, _-_, _≤_, _<_, min}
 use native.Mathlib.Numerals.{add-one}
 use native.Mathlib.Omega.{arith}
 use borrow.Author.Needs.{needs}
+use Rattle.targets.specs.Targets.{most}
 use Rattle.judge.specs.Judge.{calls, firstFrom, causeOf}
 use Rattle.judge.proofs.Causes.{first-here, first-later}
 use Rattle.judge.proofs.cause.Statement.{statement}
@@ -29,7 +30,7 @@ none-left f k n h = let z : n - k ≡ 0 = omega arith in rw z
 
 abbrev Inv-loop : tie.InvT-loop
 Inv-loop offset head speed count locations speeds places n k₀ k =
-    (n ≤ 8) × (k ≤ n) × (causeOf offset head speed count locations speeds places ≡ firstFrom (calls offset head speed locations speeds places) k (n - k))
+    (n ≤ most) × (k ≤ n) × (causeOf offset head speed count locations speeds places ≡ firstFrom (calls offset head speed locations speeds places) k (n - k))
 
 abbrev μ-loop : tie.MeasureT-loop
 μ-loop offset head speed count locations speeds places n k₀ k = n - k
@@ -38,7 +39,7 @@ loop-holds : tie.Need-loop-holds Inv-loop μ-loop
 unfolding causeOf
 loop-holds c =
     let a = c .before .args in
-    let e : min (a .count) 8 ≡ c .if1 .n = ⊎-elim (λ w. omega arith) (λ w. omega arith) (c .if1 .came) in (
+    let e : min (a .count) most ≡ c .if1 .n = ⊎-elim (λ w. omega arith) (λ w. omega arith) (c .if1 .came) in (
       omega arith,
       omega arith,
       ap (λ (m : ℕ). firstFrom (calls (a .offset) (a .head) (a .speed) (a .t5) (a .t6) (a .t7)) 0 m) (omega arith),

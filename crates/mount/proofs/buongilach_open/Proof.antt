@@ -3,6 +3,7 @@ use mathlib.Core.Path.{_≡_, sym, ap, _∙_}
 use mathlib.Core.List.{List}
 use Prim.Native.Nat.{ℕ}
 use denote.Ref.{now}
+use Rattle.refusal.specs.Number.{numberOfVerdict, told}
 use Rattle.consist.specs.Consist.{consistIn}
 use Rattle.session.specs.declared.Session.{Session}
 use Rattle.session.specs.declared.Answer.{Answer}
@@ -10,6 +11,7 @@ use Rattle.session.specs.Session.{noneOpen}
 use Rattle.session.specs.Open.{openedWith, openOf}
 use Rattle.held.specs.Held.{bytesOf, writeSession}
 use Rattle.mount.specs.Mount.{openBytes}
+use Rattle.session.proofs.Told.{session-one, answer-one}
 use Rattle.mount.proofs.Told.{told-of, told-refused}
 use Rattle.mount.proofs.Calls.{open-refused, open-written}
 use borrow.Author.Needs.{needs}
@@ -24,59 +26,39 @@ module _ (c : tie.After-open) where
   session = now (c .before .before .before .before .args .session)
 
   answers : c .«open» .result ≡ openOf noneOpen consist
-  answers = c .«open» .ensures ∙ ap (λ (x : Session). openOf x consist) (c .before .none .ensures)
+  answers = answer-one _ _ (c .«open» .ensures) ∙ ap (λ (x : Session). openOf x consist) (session-one _ _ (c .before .none .ensures))
 
-none-requires : tie.Need-none-requires
-none-requires c κs = search needs
-
-open-requires : tie.Need-open-requires
-open-requires c κs = search needs
-
-enum-known-verdict : tie.Need-enum-known-verdict
-enum-known-verdict c = search needs
-
-number-requires : tie.Need-number-requires
-number-requires c κs = search needs
-
-enum-told : tie.Need-enum-told
-enum-told c = search needs
-
-write-requires : tie.Need-write-requires
-write-requires c κs = search needs
-
-verdict-number-requires : tie.Need-verdict-number-requires
-verdict-number-requires c κs = search needs
+  verdict-is : openOf noneOpen consist .verdict ≡ c .«open» .result .verdict
+  verdict-is = sym (ap (λ (a : Answer). a .verdict) answers)
 
 returns : tie.Need-returns
 unfolding openBytes
 returns c =
-    let k = c .before .before .before .before .before in
-    told-refused (bytesOf (openedWith (consistIn (consist k)))) (session k) (c .number .ensures)
-    (open-refused (consist k) (session k) _ (ap (λ (a : Answer). a .verdict) (sym (answers k)) ∙ c .before .before .verdict .given .1))
-
-same-length : tie.Need-same-length
-same-length c = search needs
+    let k = c .before .before .before in
+    let r = c .before .enum-told2 .given .1 in
+    told-refused (bytesOf (openedWith (consistIn (consist k)))) (session k) (c .verdict-number .ensures ∙ ap numberOfVerdict r)
+    (open-refused (consist k) (session k) _ (verdict-is k ∙ r))
 
 returns-2 : tie.Need-returns-2
 unfolding openBytes
 returns-2 c =
     let k = c .before .before .before .before .before .before .before .before in
-    told-of (c .verdict-number .ensures)
+    told-of (c .verdict-number2 .ensures)
     (c .before .before .before .write .ensures
-    ∙ ap (λ (a : Answer). writeSession (a .session) (session k)) (answers k)
-    ∙ open-written (consist k) (session k) (ap (λ (a : Answer). a .verdict) (sym (answers k)) ∙ c .before .before .before .before .before .enum-told .given .1))
+    ∙ ap (λ (a : Answer). told (writeSession (a .session) (session k))) (answers k)
+    ∙ ap told (open-written (consist k) (session k) (verdict-is k ∙ c .before .before .before .before .before .before .enum-told .given .1)))
 
 pub buongilach-open-spec : {M : Type 1} → statement M
 buongilach-open-spec =
     tie.close
     (tie.spec
-    none-requires
-    open-requires
-    enum-known-verdict
-    number-requires
-    enum-told
-    write-requires
-    verdict-number-requires
+    (λ c κs. search needs)
+    (λ c κs. search needs)
+    (λ c. search needs)
+    (λ c. search needs)
+    (λ c κs. search needs)
     returns
-    same-length
+    (λ c κs. search needs)
+    (λ c κs. search needs)
+    (λ c. search needs)
     returns-2)

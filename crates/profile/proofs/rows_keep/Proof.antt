@@ -1,90 +1,61 @@
--- `profile::rows_keep` meets its contract. Assumes nothing.
-use mathlib.Core.Path.{_≡_, sym, ap, _∙_}
-use mathlib.Core.Bool.{true, false}
-use Prim.Native.Nat.{_≤_}
+-- `profile::rows_keep` meets its contract: the records before k are judged, and `before` is the start of the last of them. Assumes nothing.
+use mathlib.Core.Path.{_≡_, refl, sym, ap, _∙_}
+use mathlib.Core.Bool.{true}
+use Prim.Native.Nat.{_-_, _≤_}
 use native.Mathlib.Omega.{arith}
 use lib.ListN.{length}
-use lib.Dec.{eqb}
-use borrow.Author.Needs.{needs}
-use borrow.Author.Tests.{eq-eqb, ne-eqb, not-true, not-false}
-use Rattle.bits.specs.Tables.{every}
-use Rattle.profile.specs.Profile.{counted, good, ends, kept, segmentOf, keptOf}
-use Rattle.profile.proofs.Rules.{counted-range}
+use borrow.Author.Tests.{not-false}
+use Rattle.bits.proofs.Ranges.{and-true-left, and-true-right}
+use Rattle.table.proofs.Judging.{counted-range, closed-last, Judged, judged-none, judged-next, kept-wrong, kept-judged}
+use Rattle.profile.specs.Profile.{fewest, ends, segments, counted, segmentOf, same}
+use Rattle.profile.proofs.Sound.{counted-is, lengths}
 use Rattle.profile.proofs.rows_keep.Statement.{statement}
 use Rattle.profile.proofs.rows_keep.Tie as tie
 
--- past each test
-all-grades : (c : tie.Else1) → eqb (length (c .before .before .before .args .grades .now)) (length (c .before .before .before .args .starts .now)) ≡ true
-all-grades c = eq-eqb _ _ (c .if1 .left)
+abbrev Inv-loop : tie.InvT-loop
+Inv-loop starts grades curvatures rows last good₀ before₀ k₀ good before k = Judged segments rows (segmentOf starts grades curvatures) (λ i. true) k good before
 
-all-curvatures : (c : tie.Else2) → eqb (length (c .before .before .before .before .args .curvatures .now)) (length (c .before .before .before .before .args .starts .now)) ≡ true
-all-curvatures c = eq-eqb _ _ (c .if2 .left)
+abbrev μ-loop : tie.MeasureT-loop
+μ-loop starts grades curvatures rows last good₀ before₀ k₀ good before k = rows - k
 
-counts : (c : tie.Else3) → counted (length (c .before .before .before .before .before .before .args .starts .now)) ≡ true
-counts c = sym (c .before .counts .ensures) ∙ not-false _ (c .if3 .left)
+returns : tie.Need-returns Inv-loop μ-loop
+returns c =
+    let a = c .before .before .before .args in
+    let b = same (a .starts .now) (a .grades .now) (a .curvatures .now) in
+    sym (kept-wrong segments _ (segmentOf (a .starts .now) (a .grades .now) (a .curvatures .now)) (λ i. true) b (counted-is b (length (a .starts .now))) (c .if1 .taken))
 
-goods : (c : tie.Else4)
-    → let a = c .before .before .before .before .before .before .before .before .args in
-    every (length (a .starts .now)) (good (segmentOf (a .starts .now) (a .grades .now) (a .curvatures .now))) ≡ true
-goods c = sym (c .before .rows-good .ensures) ∙ not-false _ (c .if4 .left)
+-- past the number of records
+known : (c : tie.Else1 Inv-loop μ-loop)
+    → let a = c .before .before .before .args in
+    (fewest ≤ length (a .starts .now)) × (length (a .grades .now) ≡ length (a .starts .now)) × (length (a .curvatures .now) ≡ length (a .starts .now))
+known c =
+    let a = c .before .before .before .args in
+    let b = same (a .starts .now) (a .grades .now) (a .curvatures .now) in
+    let n = length (a .starts .now) in
+    let h = sym (counted-is b n) ∙ not-false _ (c .if1 .left) in
+    let l = lengths (a .starts .now) (a .grades .now) (a .curvatures .now) (and-true-left b (counted n) h) in
+    (counted-range segments n (and-true-right b (counted n) h) .0, l .0, l .1)
 
-some : (c : tie.Else4) → 2 ≤ length (c .before .before .before .before .before .before .before .before .args .starts .now)
-some c = counted-range _ (counts (c .before .before)) .0
+loop-again : tie.Need-loop-again Inv-loop μ-loop
+loop-again c =
+    let l = c .before .before .before .loop in
+    judged-next segments _ _ _ (l .k) (l .good) (l .before) _ _ _ (l .inv) (c .before .before .loop-test .taken) (c .before .row-at .ensures) refl (c .good-after .ensures)
 
-returns : tie.Need-returns
-unfolding keptOf
-returns c = rw (ne-eqb (length (c .before .before .before .args .grades .now)) (length (c .before .before .before .args .starts .now)) (c .if1 .taken))
-
-returns-2 : tie.Need-returns-2
-unfolding keptOf
-returns-2 c = rw (all-grades (c .before), ne-eqb (length (c .before .before .before .before .args .curvatures .now)) (length (c .before .before .before .before .args .starts .now)) (c .if2 .taken))
-
-counts-requires : tie.Need-counts-requires
-counts-requires c κs = search needs
-
-returns-3 : tie.Need-returns-3
-unfolding keptOf kept
-returns-3 c =
-    let no : counted (length (c .before .before .before .before .before .before .args .starts .now)) ≡ false = sym (c .before .counts .ensures) ∙ not-true _ (c .if3 .taken) in
-    rw (all-grades (c .before .before .before), all-curvatures (c .before .before), no)
-
-rows-good-requires : tie.Need-rows-good-requires
-rows-good-requires c κs = search needs
-
-returns-4 : tie.Need-returns-4
-unfolding keptOf kept
-returns-4 c =
-    let a = c .before .before .before .before .before .before .before .before .args in
-    let no : every (length (a .starts .now)) (good (segmentOf (a .starts .now) (a .grades .now) (a .curvatures .now))) ≡ false =
-    sym (c .before .rows-good .ensures) ∙ not-true _ (c .if4 .taken) in
-    rw (all-grades (c .before .before .before .before .before), all-curvatures (c .before .before .before .before), counts (c .before .before), no)
-
-sub-row-at : tie.Need-sub-row-at
-sub-row-at c = omega (arith, some c)
-
-row-at-requires : tie.Need-row-at-requires
-row-at-requires c κs = omega (arith, some c)
-
-only-ends-requires : tie.Need-only-ends-requires
-only-ends-requires c κs = search needs
-
-returns-5 : tie.Need-returns-5
-unfolding keptOf kept
-returns-5 c =
-    rw (all-grades (c .before .before .before .before .before .before .before), all-curvatures (c .before .before .before .before .before .before), counts (c .before .before .before .before), goods (c .before .before))
-    (c .only-ends .ensures ∙ ap ends (c .before .row-at .ensures))
+returns-2 : tie.Need-returns-2 Inv-loop μ-loop
+returns-2 c =
+    let number = c .before .before .before .before in
+    let a = number .before .before .before .args in
+    let n = length (a .starts .now) in
+    let f = segmentOf (a .starts .now) (a .grades .now) (a .curvatures .now) in
+    let b = same (a .starts .now) (a .grades .now) (a .curvatures .now) in
+    let l = c .before .before .before .loop in
+    sym
+    (kept-judged segments n f (λ i. true) b (counted-is b n) (number .if1 .left) (l .k) (l .good) (l .before) _ (l .inv) (c .before .before .loop-test .left)
+    (c .only-ends .ensures ∙ ap ends {y = f (n - 1)} (c .before .row-at2 .ensures) ∙ closed-last segments n f (omega (arith, known number))))
 
 pub rows-keep-spec : {M : Type 1} → statement M
 rows-keep-spec =
     tie.close
-    (tie.spec
-    returns
-    returns-2
-    counts-requires
-    returns-3
-    rows-good-requires
-    returns-4
-    sub-row-at
-    row-at-requires
-    only-ends-requires
-    returns-5)
+    (tie.spec Inv-loop μ-loop returns (λ c. omega (arith, known c)) (λ c. judged-none segments _ _ _)
+    (λ c κs. omega (arith, known (c .before .before))) (λ c κs. tt) (λ c. omega arith) (λ c. omega arith) loop-again
+    (λ c κs. omega (arith, known (c .before .before))) (λ c κs. tt) returns-2)

@@ -1,70 +1,66 @@
 -- `sample::judge` meets its contract: the readings decide the one rule, one after the other. Assumes nothing.
-use mathlib.Core.Path.{sym, _∙_}
+use mathlib.Core.Path.{_≡_, sym, ap, _∙_}
+use mathlib.Core.Bool.{true, false, true-or, or-true}
 use Rattle.hundredths.proofs.Accepted.{speed-refused, speed-accepted, pressure-refused, pressure-accepted}
-use Rattle.sample.proofs.Steps.{bad-speed, bad-front, bad-rear, none-bad, rear-on, rear-off}
-use Rattle.sample.proofs.Answers.{judge-bad, judge-accepted}
+use Rattle.hundredths.proofs.Told.{reading-one}
+use Rattle.refusal.specs.declared.Verdict.the-variants.{Accepted}
+use Rattle.sample.specs.declared.RawSample.{RawSample}
+use Rattle.sample.specs.declared.RearPressure.{RearPressure}
+use Rattle.sample.specs.declared.RearPressure.the-variants.{Present}
+use Rattle.sample.specs.Sample.{badRear, badReading, rearInHundredths, judgedTold, judgeSample}
+use Rattle.sample.proofs.Answers.{judge-is}
 use borrow.Author.Needs.{needs}
 use Rattle.sample.proofs.judge.Statement.{statement}
 use Rattle.sample.proofs.judge.Tie as tie
 
-speed-requires : tie.Need-speed-requires
-speed-requires c κs = search needs
+abbrev given : tie.After-known-told2 → RawSample
+given c = c .before .before .before .before .before .before .before .before .args .raw
 
-enum-known-speed : tie.Need-enum-known-speed
-enum-known-speed c = search needs
-
-enum-told : tie.Need-enum-told
-enum-told c = search needs
+-- past speed and front: the rear decides
+past-front : (c : tie.After-known-told2) (p : RearPressure) → badRear (given c .rear) ≡ false → p ≡ rearInHundredths (given c .rear)
+    → judgedTold (Accepted, record { time = given c .time; head = given c .head; speed = c .before .before .before .before .before .speed2 .given .0 .0; front = c .before .front .given .0 .0; rear = p })
+    ≡ judgedTold (judgeSample (given c))
+unfolding badReading
+past-front c p b e =
+    let s = speed-accepted (given c .speed) (sym (reading-one _ _ (c .before .before .before .before .before .before .before .speed .ensures)) ∙ c .before .before .before .before .before .speed2 .given .1) in
+    let f = pressure-accepted (given c .front) (sym (reading-one _ _ (c .before .before .before .pressure .ensures)) ∙ c .before .front .given .1) in
+    ap judgedTold
+    ((λ i. (Accepted, record { time = given c .time; head = given c .head; speed = s .1 i; front = f .1 i; rear = e i }))
+    ∙ sym (judge-is (given c) false (simp (s .0, f .0, b))))
 
 returns : tie.Need-returns
-returns c = sym (judge-bad _ (bad-speed _ (speed-refused _ (sym (c .before .before .speed .ensures) ∙ c .enum-told .given .1))))
-
-pressure-requires : tie.Need-pressure-requires
-pressure-requires c κs = search needs
-
-enum-known-front : tie.Need-enum-known-front
-enum-known-front c = search needs
-
-enum-told-2 : tie.Need-enum-told-2
-enum-told-2 c = search needs
+unfolding badReading
+returns c =
+    let h = speed-refused _ (sym (reading-one _ _ (c .before .before .before .speed .ensures)) ∙ c .before .enum-told .given .1) in
+    ap judgedTold (c .bad-reading .ensures ∙ sym (judge-is (c .before .before .before .before .args .raw) true (simp (h, true-or))))
 
 returns-2 : tie.Need-returns-2
-returns-2 c = sym (judge-bad _ (bad-front _ (pressure-refused _ (sym (c .before .before .pressure .ensures) ∙ c .enum-told2 .given .1))))
-
-judge-rear-requires : tie.Need-judge-rear-requires
-judge-rear-requires c κs = search needs
-
-enum-known-rear : tie.Need-enum-known-rear
-enum-known-rear c = search needs
-
-enum-told-3 : tie.Need-enum-told-3
-enum-told-3 c = search needs
+unfolding badReading
+returns-2 c =
+    let h = pressure-refused _ (sym (reading-one _ _ (c .before .before .before .pressure .ensures)) ∙ c .before .enum-told2 .given .1) in
+    ap judgedTold (c .bad-reading2 .ensures ∙ sym (judge-is (c .before .before .before .before .before .before .before .before .args .raw) true (simp (h, or-true, true-or))))
 
 returns-3 : tie.Need-returns-3
-returns-3 c = sym (judge-bad _ (bad-rear _ (rear-off (c .before .before .before .before .before .before .before .before .before .before .before .args .raw .rear) _ (c .before .before .judge-rear .ensures) (c .enum-told3 .given .1))))
+unfolding badReading
+returns-3 c =
+    let h = ap badRear (c .before .before .before .before .before .rear .given .1) ∙ pressure-refused _ (sym (reading-one _ _ (c .before .before .before .pressure2 .ensures)) ∙ c .before .enum-told3 .given .1) in
+    ap judgedTold (c .bad-reading3 .ensures ∙ sym (judge-is (c .before .before .before .before .before .before .before .before .before .before .before .before .before .before .before .args .raw) true (simp (h, or-true))))
 
 returns-4 : tie.Need-returns-4
 returns-4 c =
-    let raw = c .before .before .before .before .before .before .before .before .before .before .before .before .args .raw in
-    let s = speed-accepted (raw .speed) (sym (c .before .before .before .before .before .before .before .before .before .before .before .speed .ensures) ∙ c .before .before .before .before .before .before .before .before .before .speed2 .given .1) in
-    let f = pressure-accepted (raw .front) (sym (c .before .before .before .before .before .before .before .pressure .ensures) ∙ c .before .before .before .before .before .front .given .1) in
-    let r = rear-on (raw .rear) _ (c .before .before .before .judge-rear .ensures) _ (c .before .rear .given .1) in
-    cc (s .1, f .1, r .1, judge-accepted raw (none-bad raw (s .0) (f .0) (r .0)))
+    let r = c .before .before .before .before .before .rear .given .1 in
+    let p = pressure-accepted _ (sym (reading-one _ _ (c .before .before .before .pressure2 .ensures)) ∙ c .before .pressure3 .given .1) in
+    past-front (c .before .before .before .before .before .before .before) _ (ap badRear r ∙ p .0) (ap Present (p .1) ∙ sym (ap rearInHundredths r))
+
+returns-5 : tie.Need-returns-5
+returns-5 c = let r = c .enum-told4 .given .1 in past-front (c .before .before) _ (ap badRear r) (sym (ap rearInHundredths r))
 
 pub judge-spec : {M : Type 1} → statement M
 judge-spec =
     tie.close
     (tie.spec
-    speed-requires
-    enum-known-speed
-    enum-told
-    returns
-    pressure-requires
-    enum-known-front
-    enum-told-2
-    returns-2
-    judge-rear-requires
-    enum-known-rear
-    enum-told-3
-    returns-3
-    returns-4)
+    (λ c κs. search needs) (λ c. search needs) (λ c. search needs) (λ c κs. search needs) returns
+    (λ c κs. search needs) (λ c. search needs) (λ c. search needs) (λ c κs. search needs) returns-2
+    (λ c. search needs) (λ c κs. search needs) (λ c. search needs) (λ c. search needs) (λ c κs. search needs) returns-3
+    (λ c. search needs) returns-4
+    returns-5)

@@ -1,60 +1,51 @@
 -- `sample::lay_out` meets its contract: the steps' answers decide the rules one after the other. Assumes nothing.
-use mathlib.Core.Path.{sym}
+use mathlib.Core.Path.{_≡_, refl, sym, ap, _∙_}
+use mathlib.Core.Bool.{true, false}
+use native.Mathlib.Omega.{arith}
 use denote.Ref.{now}
-use Rattle.sample.proofs.Steps.{LaidOut, marked-on, marked-off}
-use Rattle.sample.proofs.FourWords.{no-words, words-read}
-use Rattle.sample.proofs.Answers.{layout-length, layout-mark, layout-raw}
+use Rattle.bits.specs.Bytes.{fieldsIn}
+use Rattle.bits.specs.Places.{fieldsFrom}
+use Rattle.bits.proofs.Places.{fields-from}
+use Rattle.record.specs.Record.{wrongLength}
+use Rattle.refusal.specs.declared.Verdict.the-variants.{Accepted}
+use Rattle.refusal.proofs.Steps.{on-unless, off-unless}
+use Rattle.sample.specs.Sample.{size, widths, ofFields, rawIn, wrongMark, answer, answerTold}
+use Rattle.sample.proofs.Answers.{right-length, layout-is}
 use borrow.Author.Needs.{needs}
 use Rattle.sample.proofs.lay_out.Statement.{statement}
 use Rattle.sample.proofs.lay_out.Tie as tie
 
--- past the length and the mark
-past-mark : (c : tie.After-raw) → LaidOut (now (c .before .before .before .before .before .before .before .before .args .s)) (c .raw .given .0 .0)
-past-mark c =
-    let s = now (c .before .before .before .before .before .before .before .before .args .s) in
-    let l = words-read s _ (c .before .before .before .before .before .before .words-of .ensures) _ _ _ _ (λ i. c .before .before .before .before .before .before .before .shared-slice-known .given i .fits) (c .before .before .before .before .first .given .1) in
-    marked-on s _ (l .1) _ (c .before .before .marked .ensures) _ (l .0) (c .raw .given .1)
-
-words-of-requires : tie.Need-words-of-requires
-words-of-requires c κs = search needs
-
-enum-known-first : tie.Need-enum-known-first
-enum-known-first c = search needs
-
-enum-told : tie.Need-enum-told
-enum-told c = search needs
+-- past the length: the fields that are read are those of the record
+past-length : (c : tie.After-enum-told)
+    → (wrongLength size (now (c .before .before .before .before .args .s)) ≡ false) × (fieldsFrom 0 widths (now (c .before .before .before .before .args .s)) ≡ fieldsIn widths (now (c .before .before .before .before .args .s)))
+unfolding wrongLength
+past-length c =
+    let s = now (c .before .before .before .before .args .s) in
+    let l = on-unless _ (sym (c .enum-told .given .1) ∙ c .before .before .unless .ensures) in
+    (l, fields-from 0 widths s tt (omega (arith, right-length s l)))
 
 returns : tie.Need-returns
-returns c = sym (layout-length _ (no-words _ _ (c .before .before .words-of .ensures) (c .enum-told .given .1)))
-
-marked-requires : tie.Need-marked-requires
-marked-requires c κs = search needs
-
-enum-known-raw : tie.Need-enum-known-raw
-enum-known-raw c = search needs
-
-enum-told-2 : tie.Need-enum-told-2
-enum-told-2 c = search needs
+unfolding wrongLength
+returns c =
+    ap answerTold (c .refused .ensures ∙ sym (layout-is _ true _ (off-unless _ (sym (c .before .enum-told2 .given .1) ∙ c .before .before .before .unless .ensures)) refl))
 
 returns-2 : tie.Need-returns-2
 returns-2 c =
-    let s = now (c .before .before .before .before .before .before .before .before .args .s) in
-    let l = words-read s _ (c .before .before .before .before .before .before .words-of .ensures) _ _ _ _ (λ i. c .before .before .before .before .before .before .before .shared-slice-known .given i .fits) (c .before .before .before .before .first .given .1) in
-    sym (layout-mark s (l .0) (marked-off s _ (l .1) _ (c .before .before .marked .ensures) (c .enum-told2 .given .1)))
+    let l = past-length (c .before .before .before .before .before) in
+    let m = sym (c .before .before .before .before .wrong-mark .ensures ∙ ap wrongMark (l .1)) ∙ off-unless _ (sym (c .before .enum-told4 .given .1) ∙ c .before .before .before .unless2 .ensures) in
+    ap answerTold (c .refused2 .ensures ∙ sym (layout-is _ false true (l .0) m))
 
 returns-3 : tie.Need-returns-3
-returns-3 c = sym (layout-raw _ _ (past-mark (c .before)))
+unfolding rawIn
+returns-3 c =
+    let l = past-length (c .before .before .before .before .before) in
+    let m = sym (c .before .before .before .before .wrong-mark .ensures ∙ ap wrongMark (l .1)) ∙ on-unless _ (sym (c .before .enum-told3 .given .1) ∙ c .before .before .before .unless2 .ensures) in
+    ap answerTold (ap (answer Accepted) (c .of-bytes .ensures ∙ ap ofFields (l .1)) ∙ sym (layout-is _ false false (l .0) m))
 
 pub lay-out-spec : {M : Type 1} → statement M
 lay-out-spec =
     tie.close
     (tie.spec
-    words-of-requires
-    enum-known-first
-    enum-told
-    returns
-    marked-requires
-    enum-known-raw
-    enum-told-2
-    returns-2
-    returns-3)
+    (λ c κs. search needs) (λ c. search needs) (λ c. search needs) (λ c κs. search needs) returns
+    (λ c κs. search needs) (λ c κs. search needs) (λ c. search needs) (λ c. search needs) (λ c κs. search needs) returns-2
+    (λ c κs. search needs) returns-3)

@@ -1,76 +1,41 @@
--- `sample::read` meets its contract: the steps' answers decide the rules one after the other. Assumes nothing.
-use mathlib.Core.Path.{sym, _∙_}
+-- `sample::read` meets its contract: what is not laid out is refused as it was, and the judgement decides the rest. Assumes nothing.
+use mathlib.Core.Path.{_≡_, sym, ap, _∙_}
+use mathlib.Core.Bool.{true, false}
 use denote.Ref.{now}
-use Rattle.sample.proofs.Steps.{LaidOut, marked-on, marked-off}
-use Rattle.sample.proofs.FourWords.{no-words, words-read}
-use Rattle.sample.proofs.Answers.{judged-accepted, judged-refused, read-length, read-mark, read-bad, read-accepted}
+use Rattle.refusal.specs.declared.Verdict.{Verdict}
+use Rattle.refusal.specs.declared.Verdict.the-variants.{Accepted}
+use Rattle.sample.specs.Sample.{answerTold, layOut}
+use Rattle.sample.proofs.Answers.{read-refused, read-is, judged-accepted, judged-refused}
+use Rattle.sample.proofs.Told.{answer-is, judged-is}
 use borrow.Author.Needs.{needs}
 use Rattle.sample.proofs.read.Statement.{statement}
 use Rattle.sample.proofs.read.Tie as tie
 
--- past the length and the mark
-past-mark : (c : tie.After-raw) → LaidOut (now (c .before .before .before .before .before .before .before .before .args .s)) (c .raw .given .0 .0)
-past-mark c =
-    let s = now (c .before .before .before .before .before .before .before .before .args .s) in
-    let l = words-read s _ (c .before .before .before .before .before .before .words-of .ensures) _ _ _ _ (λ i. c .before .before .before .before .before .before .before .shared-slice-known .given i .fits) (c .before .before .before .before .first .given .1) in
-    marked-on s _ (l .1) _ (c .before .before .marked .ensures) _ (l .0) (c .raw .given .1)
-
-words-of-requires : tie.Need-words-of-requires
-words-of-requires c κs = search needs
-
-enum-known-first : tie.Need-enum-known-first
-enum-known-first c = search needs
-
-enum-told : tie.Need-enum-told
-enum-told c = search needs
+-- past the layout
+past-layout : (c : tie.After-enum-told) → layOut (now (c .before .before .before .before .args .s)) ≡ (Accepted, c .before .before .lay-out .result .raw)
+past-layout c = answer-is _ (c .before .before .lay-out .result) _ (c .before .before .lay-out .ensures) (c .enum-told .given .1)
 
 returns : tie.Need-returns
-returns c = sym (read-length _ (no-words _ _ (c .before .before .words-of .ensures) (c .enum-told .given .1)))
-
-marked-requires : tie.Need-marked-requires
-marked-requires c κs = search needs
-
-enum-known-raw : tie.Need-enum-known-raw
-enum-known-raw c = search needs
-
-enum-told-2 : tie.Need-enum-told-2
-enum-told-2 c = search needs
+returns c =
+    let laid = c .before .before .lay-out in
+    laid .ensures ∙ ap answerTold (sym (read-refused _ _ _ (answer-is _ (laid .result) _ (laid .ensures) (c .enum-told2 .given .1))))
 
 returns-2 : tie.Need-returns-2
 returns-2 c =
-    let s = now (c .before .before .before .before .before .before .before .before .args .s) in
-    let l = words-read s _ (c .before .before .before .before .before .before .words-of .ensures) _ _ _ _ (λ i. c .before .before .before .before .before .before .before .shared-slice-known .given i .fits) (c .before .before .before .before .first .given .1) in
-    sym (read-mark s (l .0) (marked-off s _ (l .1) _ (c .before .before .marked .ensures) (c .enum-told2 .given .1)))
-
-judge-requires : tie.Need-judge-requires
-judge-requires c κs = search needs
-
-enum-told-3 : tie.Need-enum-told-3
-enum-told-3 c = search needs
-
-enum-told-4 : tie.Need-enum-told-4
-enum-told-4 c = search needs
+    let j = judged-is _ (c .before .before .before .judge .result) _ (c .before .before .before .judge .ensures) (c .before .enum-told4 .given .1) in
+    ap answerTold (c .refused .ensures ∙ sym (read-is _ _ true (past-layout (c .before .before .before .before .before)) (judged-refused _ _ _ j .0)))
 
 returns-3 : tie.Need-returns-3
-returns-3 c = sym (read-bad _ _ (past-mark (c .before .before .before .before)) (judged-refused _ _ (sym (c .before .before .judge .ensures) ∙ c .enum-told4 .given .1) .0))
-
-returns-4 : tie.Need-returns-4
-returns-4 c = sym (read-accepted _ _ (past-mark (c .before .before .before .before)) (judged-accepted _ _ (sym (c .before .before .judge .ensures) ∙ c .enum-told3 .given .1) .0))
+returns-3 c =
+    let j = judged-is _ (c .before .before .judge .result) _ (c .before .before .judge .ensures) (c .enum-told3 .given .1) in
+    ap answerTold
+    (ap (λ (v : Verdict). (v, c .before .before .before .before .before .before .lay-out .result .raw)) (c .before .before .before .before .enum-told .given .1)
+    ∙ sym (read-is _ _ false (past-layout (c .before .before .before .before)) (judged-accepted _ _ j .0)))
 
 pub read-spec : {M : Type 1} → statement M
 read-spec =
     tie.close
     (tie.spec
-    words-of-requires
-    enum-known-first
-    enum-told
-    returns
-    marked-requires
-    enum-known-raw
-    enum-told-2
-    returns-2
-    judge-requires
-    enum-told-3
-    enum-told-4
-    returns-3
-    returns-4)
+    (λ c κs. search needs) (λ c. search needs) (λ c. search needs) returns
+    (λ c κs. search needs) (λ c. search needs) (λ c. search needs) (λ c κs. search needs) returns-2
+    returns-3)

@@ -5,14 +5,8 @@ use borrow.Author.Needs.{needs}
 use Rattle.sample.proofs.rear_of.Statement.{statement}
 use Rattle.sample.proofs.rear_of.Tie as tie
 
-float-of-requires : tie.Need-float-of-requires
-float-of-requires c κs = search needs
-
-returns : tie.Need-returns
-returns c = search needs
-
 returns-2 : tie.Need-returns-2
 returns-2 c = simp (c .before .if1 .left) (ap Present (c .float-of .ensures))
 
 pub rear-of-spec : {M : Type 1} → statement M
-rear-of-spec = tie.close (tie.spec float-of-requires returns returns-2)
+rear-of-spec = tie.close (tie.spec (λ c κs. search needs) (λ c. search needs) returns-2)

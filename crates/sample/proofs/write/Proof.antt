@@ -1,63 +1,69 @@
 -- `sample::write` meets its contract: nothing is touched until every rule has passed. Assumes nothing.
-use mathlib.Core.Path.{_≡_, sym, ap, _∙_}
-use mathlib.Core.Bool.{false}
+use mathlib.Core.Path.{_≡_, refl, sym, ap, _∙_}
+use mathlib.Core.Bool.{true, false}
 use mathlib.Core.List.{List}
 use Prim.Native.Nat.{ℕ}
-use Rattle.refusal.specs.declared.Verdict.the-variants as verdict
-use Rattle.sample.specs.Sample.{tooWide, badReading}
-use Rattle.sample.proofs.Answers.{judged-accepted, judged-refused, write-wide, write-bad, write-room, write-accepted}
+use lib.ListN.{length}
+use borrow.Author.Tests.{ltb-false}
+use denote.Ref.{now}
+use Rattle.bits.proofs.Places.{put-all}
+use Rattle.refusal.specs.Written.{noRoom}
+use Rattle.refusal.specs.Number.{told}
+use Rattle.refusal.specs.declared.Verdict.the-variants.{Accepted}
+use Rattle.refusal.proofs.Steps.{on-unless, off-unless}
+use Rattle.sample.specs.Sample.{size, widths, fieldsOf, bytesOf, tooWide, badReading}
+use Rattle.sample.proofs.Answers.{write-is, fits, judged-accepted, judged-refused}
+use Rattle.sample.proofs.Told.{judged-is}
 use borrow.Author.Needs.{needs}
 use Rattle.sample.proofs.write.Statement.{statement}
 use Rattle.sample.proofs.write.Tie as tie
 
+-- past the widths
+past-widths : (c : tie.After-enum-told) → tooWide (c .before .before .before .before .before .before .args .raw) ≡ false
+unfolding tooWide
+past-widths c = on-unless _ (sym (c .enum-told .given .1) ∙ c .before .before .unless .ensures)
+
 -- past the readings
-past-readings : (c : tie.After-enum-told) → badReading (c .before .before .before .before .before .before .before .args .raw) ≡ false
-past-readings c = judged-accepted _ _ (sym (c .before .before .judge .ensures) ∙ c .enum-told .given .1) .0
+past-readings : (c : tie.After-enum-told3) → badReading (c .before .before .before .before .before .before .before .before .before .args .raw) ≡ false
+past-readings c = judged-accepted _ _ (judged-is _ (c .before .before .judge .result) _ (c .before .before .judge .ensures) (c .enum-told3 .given .1)) .0
 
 returns : tie.Need-returns
 unfolding tooWide
-returns c = sym (write-wide _ _ (c .if1 .taken))
-
-judge-requires : tie.Need-judge-requires
-judge-requires c κs = search needs
-
-enum-told : tie.Need-enum-told
-enum-told c = search needs
-
-enum-told-2 : tie.Need-enum-told-2
-enum-told-2 c = search needs
+returns c = ap told (sym (write-is _ _ true _ _ (off-unless _ (sym (c .enum-told2 .given .1) ∙ c .before .before .unless .ensures)) refl refl))
 
 returns-2 : tie.Need-returns-2
-unfolding tooWide
-returns-2 c = sym (write-bad _ _ (c .before .before .before .if1 .left) (judged-refused _ _ (sym (c .before .before .judge .ensures) ∙ c .enum-told2 .given .1) .0))
+returns-2 c =
+    let b = judged-refused _ _ _ (judged-is _ (c .before .before .judge .result) _ (c .before .before .judge .ensures) (c .enum-told4 .given .1)) .0 in
+    ap told (sym (write-is _ _ false true _ (past-widths (c .before .before .before)) b refl))
 
 returns-3 : tie.Need-returns-3
-unfolding tooWide
-returns-3 c = sym (write-room _ _ (c .before .before .before .before .if1 .left) (past-readings (c .before)) (c .if2 .taken))
-
-put-requires : tie.Need-put-requires
-unfolding tooWide
-put-requires c κs = (c .before .before .before .before .before .if1 .left, c .before .if2 .left)
-
-same-length : tie.Need-same-length
-same-length c = search needs
+unfolding noRoom
+returns-3 c =
+    ap told
+    (sym
+    (write-is _ _ false false true (past-widths (c .before .before .before .before .before .before)) (past-readings (c .before .before .before))
+    (off-unless _ (sym (c .enum-told6 .given .1) ∙ c .before .before .unless2 .ensures))))
 
 returns-4 : tie.Need-returns-4
-unfolding tooWide
+unfolding noRoom bytesOf
 returns-4 c =
-    ap (λ (o : List ℕ). (verdict.Accepted, o)) (c .before .before .put .ensures)
-    ∙ sym (write-accepted _ _ (c .before .before .before .before .before .before .before .before .if1 .left) (past-readings (c .before .before .before .before .before)) (c .before .before .before .before .if2 .left))
+    let past = c .before .before .before .before in
+    let start = past .before .before .before .before .before .before .before .before .before .before .before in
+    let raw = start .before .args .raw in
+    let out = now (start .before .args .out) in
+    let w = past-widths (past .before .before .before .before .before .before) in
+    let o : noRoom size out ≡ false = on-unless _ (sym (past .enum-told5 .given .1) ∙ past .before .before .unless2 .ensures) in
+    ap told
+    (ap (λ (l : List ℕ). (Accepted, l))
+    (c .before .before .put .ensures .0
+    ∙ put-all size widths (fieldsOf raw) out tt refl (fits raw w (c .before .before .put .ensures .1)) (λ i. start .slice-known .given i .fits) (ltb-false (length out) size o))
+    ∙ sym (write-is raw out false false false w (past-readings (past .before .before .before)) o))
 
 pub write-spec : {M : Type 1} → statement M
 write-spec =
     tie.close
     (tie.spec
-    returns
-    judge-requires
-    enum-told
-    enum-told-2
-    returns-2
-    returns-3
-    put-requires
-    same-length
-    returns-4)
+    (λ c κs. search needs) (λ c. search needs) (λ c. search needs) returns
+    (λ c κs. search needs) (λ c. search needs) (λ c. search needs) returns-2
+    (λ c κs. search needs) (λ c. search needs) (λ c. search needs) returns-3
+    (λ c κs. search needs) (λ c. search needs) returns-4)

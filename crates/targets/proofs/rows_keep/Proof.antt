@@ -1,40 +1,53 @@
--- `targets::rows_keep` meets its contract. Assumes nothing.
-use mathlib.Core.Path.{_≡_, sym, _∙_}
-use mathlib.Core.Bool.{true, false}
+-- `targets::rows_keep` meets its contract: the records before k are judged, and `before` is the location of the last of them. Assumes nothing.
+use mathlib.Core.Path.{_≡_, refl, sym, _∙_}
+use mathlib.Core.Bool.{true, and-true}
+use Prim.Native.Nat.{_-_}
+use native.Mathlib.Omega.{arith}
 use lib.ListN.{length}
-use lib.Dec.{eqb}
-use borrow.Author.Needs.{needs}
-use borrow.Author.Tests.{eq-eqb, ne-eqb, not-true, not-false}
-use Rattle.targets.specs.Targets.{counted, kept, keptOf}
+use borrow.Author.Tests.{eqb-true, not-false}
+use Rattle.bits.proofs.Ranges.{and-true-left}
+use Rattle.table.proofs.Judging.{Judged, judged-none, judged-next, kept-wrong, kept-judged, closed-any}
+use Rattle.targets.specs.Targets.{targets, targetOf, same}
+use Rattle.targets.proofs.Sound.{counted-is}
 use Rattle.targets.proofs.rows_keep.Statement.{statement}
 use Rattle.targets.proofs.rows_keep.Tie as tie
 
--- past each test
-all-speeds : (c : tie.Else1) → eqb (length (c .before .before .before .args .speeds .now)) (length (c .before .before .before .args .locations .now)) ≡ true
-all-speeds c = eq-eqb _ _ (c .if1 .left)
+abbrev Inv-loop : tie.InvT-loop
+Inv-loop locations speeds n good₀ before₀ k₀ good before k = Judged targets n (targetOf locations speeds) (λ i. true) k good before
 
-counts : (c : tie.Else2) → counted (length (c .before .before .before .before .before .args .locations .now)) ≡ true
-counts c = sym (c .before .counts .ensures) ∙ not-false _ (c .if2 .left)
+abbrev μ-loop : tie.MeasureT-loop
+μ-loop locations speeds n good₀ before₀ k₀ good before k = n - k
 
-returns : tie.Need-returns
-unfolding keptOf
-returns c = rw (ne-eqb (length (c .before .before .before .args .speeds .now)) (length (c .before .before .before .args .locations .now)) (c .if1 .taken))
+returns : tie.Need-returns Inv-loop μ-loop
+returns c =
+    let a = c .before .before .before .args in
+    let b = same (a .locations .now) (a .speeds .now) in
+    sym (kept-wrong targets _ (targetOf (a .locations .now) (a .speeds .now)) (λ i. true) b (counted-is b (length (a .locations .now))) (c .if1 .taken))
 
-counts-requires : tie.Need-counts-requires
-counts-requires c κs = search needs
+row-at-requires : tie.Need-row-at-requires Inv-loop μ-loop
+row-at-requires c κs =
+    let a = c .before .before .before .before .before .args in
+    let e : length (a .speeds .now) ≡ length (a .locations .now) = eqb-true _ _ (and-true-left _ _ (not-false _ (c .before .before .if1 .left))) in
+    omega arith
 
-returns-2 : tie.Need-returns-2
-unfolding keptOf kept
+loop-again : tie.Need-loop-again Inv-loop μ-loop
+loop-again c =
+    let l = c .before .before .before .loop in
+    judged-next targets _ _ _ (l .k) (l .good) (l .before) _ _ _ (l .inv) (c .before .before .loop-test .taken) (c .before .row-at .ensures) refl (c .good-after .ensures)
+
+returns-2 : tie.Need-returns-2 Inv-loop μ-loop
 returns-2 c =
-    let no : counted (length (c .before .before .before .before .before .args .locations .now)) ≡ false = sym (c .before .counts .ensures) ∙ not-true _ (c .if2 .taken) in
-    rw (all-speeds (c .before .before), no)
-
-rows-good-requires : tie.Need-rows-good-requires
-rows-good-requires c κs = search needs
-
-returns-3 : tie.Need-returns-3
-unfolding keptOf kept
-returns-3 c = rw (all-speeds (c .before .before .before), counts (c .before)) (c .rows-good .ensures)
+    let a = c .before .before .before .before .before .args in
+    let n = length (a .locations .now) in
+    let f = targetOf (a .locations .now) (a .speeds .now) in
+    let b = same (a .locations .now) (a .speeds .now) in
+    let l = c .before .loop in
+    sym
+    (kept-judged targets n f (λ i. true) b (counted-is b n) (c .before .before .if1 .left) (l .k) (l .good) (l .before) true (l .inv) (c .loop-test .left)
+    (closed-any targets (λ g. refl) n f)
+    ∙ and-true (l .good))
 
 pub rows-keep-spec : {M : Type 1} → statement M
-rows-keep-spec = tie.close (tie.spec returns counts-requires returns-2 rows-good-requires returns-3)
+rows-keep-spec =
+    tie.close
+    (tie.spec Inv-loop μ-loop returns (λ c. judged-none targets _ _ _) row-at-requires (λ c κs. tt) (λ c. omega arith) (λ c. omega arith) loop-again returns-2)

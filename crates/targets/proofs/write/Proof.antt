@@ -1,50 +1,68 @@
--- `targets::write` meets its contract: nothing is touched until every rule has passed. Assumes nothing.
-use mathlib.Core.Path.{_≡_, sym, ap, _∙_}
-use mathlib.Core.Bool.{true}
-use mathlib.Core.List.{List}
-use Prim.Native.Nat.{ℕ}
+-- `targets::write` meets its contract: nothing is touched until every rule has passed, and then record after record is put. Assumes nothing.
+use mathlib.Core.Path.{_≡_, refl, sym, ap, _∙_}
+use mathlib.Core.Bool.{true, false}
+use Prim.Native.Nat.{_-_}
 use native.Mathlib.Omega.{arith}
-use borrow.Author.Tests.{not-true, not-false}
-use Rattle.refusal.specs.declared.Verdict.the-variants as verdict
-use Rattle.targets.specs.Targets.{keptOf}
-use Rattle.targets.proofs.Rules.{rows}
-use Rattle.targets.proofs.Answers.{write-broken, write-room, write-kept}
-use borrow.Author.Needs.{needs}
+use lib.ListN.{length}
+use borrow.Author.Tests.{ltb-false, eqb-true, not-true, not-false}
+use Rattle.bits.proofs.Ranges.{and-true-left}
+use Rattle.refusal.specs.Number.{told}
+use Rattle.refusal.specs.Written.{noRoom}
+use Rattle.refusal.proofs.Steps.{on-unless, off-unless}
+use Rattle.table.proofs.Writing.{Put, put-none, put-next, put-all-of}
+use Rattle.targets.specs.Targets.{targets, targetOf, same, keptOf}
+use Rattle.targets.proofs.Sound.{facts, write-is}
 use Rattle.targets.proofs.write.Statement.{statement}
 use Rattle.targets.proofs.write.Tie as tie
 
--- past the rules
-past-rules : (c : tie.Else1) → let a = c .before .before .before .before .before .args in keptOf (a .locations .now) (a .speeds .now) ≡ true
-past-rules c = sym (c .before .rows-keep .ensures) ∙ not-false _ (c .if1 .left)
+abbrev Inv-loop : tie.InvT-loop
+Inv-loop locations speeds out₀ k₀ k-end out k = Put targets (targetOf locations speeds) (same locations speeds) (length locations) out₀ k out
 
-rows-keep-requires : tie.Need-rows-keep-requires
-rows-keep-requires c κs = search needs
+abbrev μ-loop : tie.MeasureT-loop
+μ-loop locations speeds out₀ k₀ k-end out k = length locations - k
 
-returns : tie.Need-returns
+returns : tie.Need-returns Inv-loop μ-loop
 returns c =
-    let a = c .before .before .before .before .before .args in
-    sym (write-broken (a .locations .now) (a .speeds .now) (a .out .now) (sym (c .before .rows-keep .ensures) ∙ not-true _ (c .if1 .taken)))
+    let a = c .before .before .before .before .before .before .before .args in
+    let no = off-unless _ (sym (c .enum-told2 .given .1) ∙ c .before .before .unless .ensures) in
+    ap told (sym (write-is (a .locations .now) (a .speeds .now) (a .out .now) false _ (sym (c .before .before .before .rows-keep .ensures) ∙ not-true _ no) refl))
 
-mul-if2 : tie.Need-mul-if2
-mul-if2 c = search needs
+-- past the rules
+past-rules : (c : tie.After-enum-told Inv-loop μ-loop) → let a = c .before .before .before .before .before .before .before .args in keptOf (a .locations .now) (a .speeds .now) ≡ true
+past-rules c = sym (c .before .before .before .rows-keep .ensures) ∙ not-false _ (on-unless _ (sym (c .enum-told .given .1) ∙ c .before .before .unless .ensures))
 
-returns-2 : tie.Need-returns-2
+returns-2 : tie.Need-returns-2 Inv-loop μ-loop
+unfolding noRoom
 returns-2 c =
-    let a = c .before .before .before .before .before .before .args in
-    sym (write-room (a .locations .now) (a .speeds .now) (a .out .now) (past-rules (c .before)) (omega (arith, c .if2 .taken)))
+    let a = c .before .before .before .before .before .before .before .before .before .before .args in
+    let no = off-unless _ (sym (c .enum-told4 .given .1) ∙ c .before .before .unless2 .ensures) in
+    ap told (sym (write-is (a .locations .now) (a .speeds .now) (a .out .now) true true (past-rules (c .before .before .before)) no))
 
-put-rows-requires : tie.Need-put-rows-requires
-put-rows-requires c κs = (rows _ _ (past-rules (c .before .before)) .speeds-all, omega (arith, c .before .if2 .left))
+loop-holds : tie.Need-loop-holds Inv-loop μ-loop
+loop-holds c =
+    let yes = on-unless _ (sym (c .enum-told3 .given .1) ∙ c .before .before .unless2 .ensures) in
+    put-none targets _ _ _ _ (past-rules (c .before .before .before)) (ltb-false _ _ yes)
 
-same-length : tie.Need-same-length
-same-length c = search needs
+row-at-requires : tie.Need-row-at-requires Inv-loop μ-loop
+row-at-requires c κs =
+    let a = c .before .before .before .before .before .before .before .before .before .before .before .before .args in
+    let e : length (a .speeds .now) ≡ length (a .locations .now) = eqb-true _ _ (and-true-left _ _ (c .before .loop .inv .right)) in
+    omega arith
 
-returns-3 : tie.Need-returns-3
-returns-3 c =
-    ap (λ (o : List ℕ). (verdict.Accepted, o)) (c .before .before .put-rows .ensures)
-    ∙ sym (write-kept _ _ _ (past-rules (c .before .before .before .before .before)) (c .before .before .before .before .if2 .left))
+loop-again : tie.Need-loop-again Inv-loop μ-loop
+loop-again c =
+    let at = c .before .before .before .before .before .before in
+    let slice = at .before .before .before .before .before .before .before .before in
+    put-next targets _ facts (at .loop .inv) (c .before .before .before .before .before .loop-test .taken) (λ i. slice .slice-known .given i .fits) _ (c .before .before .before .before .row-at .ensures) _
+    (c .before .before .put .ensures)
+
+returns-3 : tie.Need-returns-3 Inv-loop μ-loop
+returns-3 c = ap told (put-all-of targets _ facts (c .before .loop .inv) (c .loop-test .left))
 
 pub write-spec : {M : Type 1} → statement M
 write-spec =
     tie.close
-    (tie.spec rows-keep-requires returns mul-if2 returns-2 put-rows-requires same-length returns-3)
+    (tie.spec Inv-loop μ-loop (λ c κs. tt) (λ c κs. tt) (λ c. omega arith) (λ c. omega arith) returns
+    (λ c. omega arith) (λ c κs. tt) (λ c. omega arith) (λ c. omega arith) returns-2
+    loop-holds (λ c. omega arith) row-at-requires (λ c. omega arith) (λ c. omega arith) (λ c. omega arith) (λ c κs. tt) (λ c. omega arith) (λ c. omega arith) loop-again
+    (λ c. omega arith) returns-3)

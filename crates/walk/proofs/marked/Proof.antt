@@ -6,6 +6,7 @@ use native.Mathlib.Omega.{arith}
 use lib.ListN.{length, getD, set, length-set}
 use lib.Seq.{getD-set-same, getD-set-other}
 use borrow.Author.Count.{below-more}
+use Rattle.targets.specs.Targets.{most}
 use Rattle.walk.specs.declared.Run.{Run}
 use Rattle.walk.specs.Marks.{markOf}
 use Rattle.walk.proofs.marked.Statement.{statement}
@@ -13,11 +14,11 @@ use Rattle.walk.proofs.marked.Tie as tie
 
 -- the places before i are marked, the others are as they were
 record Until (run : Run) (speeds before : List ℕ) (i : ℕ) (places : List ℕ) : Type 0 where
-  size : length places ≡ 8
+  size : length places ≡ most
   done : (k : ℕ) → k < i → getD places k 0 ≡ markOf run (getD speeds k 0) (getD before k 0)
   left : (k : ℕ) → i ≤ k → getD places k 0 ≡ getD before k 0
 
-further : (run : Run) (speeds before : List ℕ) (i v : ℕ) (places : List ℕ) → i < 8 → Until run speeds before i places
+further : (run : Run) (speeds before : List ℕ) (i v : ℕ) (places : List ℕ) → i < most → Until run speeds before i places
     → v ≡ markOf run (getD speeds i 0) (getD places i 0) → Until run speeds before (i + 1) (set places i v)
 further run speeds before i v places h u e =
     record {
@@ -29,10 +30,10 @@ further run speeds before i v places h u e =
     }
 
 abbrev Inv-loop : tie.InvT-loop
-Inv-loop run speeds places₀ i₀ places i = (i ≤ 8) × Until run speeds places₀ i places
+Inv-loop run speeds places₀ i₀ places i = (i ≤ most) × Until run speeds places₀ i places
 
 abbrev μ-loop : tie.MeasureT-loop
-μ-loop run speeds places₀ i₀ places i = 8 - i
+μ-loop run speeds places₀ i₀ places i = most - i
 
 loop-holds : tie.Need-loop-holds Inv-loop μ-loop
 loop-holds c = (omega arith, record { size = omega arith; done = λ k h. absurd (omega arith); left = λ k h. refl })

@@ -12,6 +12,7 @@ use Rattle.track.specs.declared.Under.{Under}
 use Rattle.track.specs.Track.{underOf}
 use Rattle.track.specs.Steps.{trackOf}
 use Rattle.track.proofs.Gentle.{gentle-grade, gentle-curve}
+use Rattle.targets.specs.Targets.{most}
 use Rattle.walk.specs.Curve.{forceAt}
 use Rattle.walk.specs.declared.Run.{Run}
 use Rattle.walk.specs.Step.{groundOf, stepOf}
@@ -56,7 +57,7 @@ module _ (c : tie.Joined2 Inv-loop μ-loop) where
   slow : here .loop .run .q ≤ 1000000000
   slow = c .before .before .if1 .left
 
-eight : (c : tie.Start Inv-loop μ-loop) → length (c .args .speeds) ≡ 8
+eight : (c : tie.Start Inv-loop μ-loop) → length (c .args .speeds) ≡ most
 eight c = omega arith
 
 -- past the tests: the run has a step to make

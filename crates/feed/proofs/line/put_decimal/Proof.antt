@@ -26,17 +26,8 @@ more-room n h = ap length (decimal-more n h) ∙ simp length-append
 loop-holds : tie.Need-loop-holds Inv-loop μ-loop
 loop-holds c = (c .before .pre .0, c .before .pre .1, refl, refl)
 
-cast-put-byte : tie.Need-cast-put-byte Inv-loop μ-loop
-cast-put-byte c = omega arith
-
-add-put-byte : tie.Need-add-put-byte Inv-loop μ-loop
-add-put-byte c = omega arith
-
 put-byte-requires : tie.Need-put-byte-requires Inv-loop μ-loop
 put-byte-requires c κs = omega (arith, more-room _ (c .before .loop-test .taken))
-
-loop-less : tie.Need-loop-less Inv-loop μ-loop
-loop-less c = omega arith
 
 loop-again : tie.Need-loop-again Inv-loop μ-loop
 loop-again c =
@@ -50,12 +41,6 @@ loop-again c =
       put-on (l .at) (l .out) (l .inv .1) (decimal (l .rest / 10)) _ _ _ (omega arith) (c .before .before .put-byte .ensures)
           ∙ ap (λ (t : List ℕ). putBefore t (l .at) (l .out)) (sym m) ∙ l .inv .3,
     )
-
-cast-put-byte-2 : tie.Need-cast-put-byte-2 Inv-loop μ-loop
-cast-put-byte-2 c = omega arith
-
-add-put-byte-2 : tie.Need-add-put-byte-2 Inv-loop μ-loop
-add-put-byte-2 c = omega arith
 
 put-byte-requires-2 : tie.Need-put-byte-requires-2 Inv-loop μ-loop
 put-byte-requires-2 c κs = omega (arith, ap length (decimal-last _ (c .before .loop-test .left)))
@@ -78,13 +63,13 @@ put-decimal-spec =
     Inv-loop
     μ-loop
     loop-holds
-    cast-put-byte
-    add-put-byte
+    (λ c. omega arith)
+    (λ c. omega arith)
     put-byte-requires
-    loop-less
+    (λ c. omega arith)
     loop-again
-    cast-put-byte-2
-    add-put-byte-2
+    (λ c. omega arith)
+    (λ c. omega arith)
     put-byte-requires-2
     same-length
     returns)

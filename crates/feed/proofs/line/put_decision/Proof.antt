@@ -10,21 +10,6 @@ use Rattle.feed.proofs.Put.{put-from}
 use Rattle.feed.proofs.line.put_decision.Statement.{statement}
 use Rattle.feed.proofs.line.put_decision.Tie as tie
 
-cast-t4 : tie.Need-cast-t4
-cast-t4 c = search needs
-
-cast-t5 : tie.Need-cast-t5
-cast-t5 c = search needs
-
-cast-t6 : tie.Need-cast-t6
-cast-t6 c = search needs
-
-slice-aggregate-put-numbers : tie.Need-slice-aggregate-put-numbers
-slice-aggregate-put-numbers c = search needs
-
-put-numbers-requires : tie.Need-put-numbers-requires
-put-numbers-requires c κs = search needs
-
 returns : tie.Need-returns
 unfolding decisionText
 returns c =
@@ -37,4 +22,4 @@ returns c =
 
 pub put-decision-spec : {M : Type 1} → statement M
 put-decision-spec =
-    tie.close (tie.spec cast-t4 cast-t5 cast-t6 slice-aggregate-put-numbers put-numbers-requires returns)
+    tie.close (tie.spec (λ c. search needs) (λ c. search needs) (λ c. search needs) (λ c. search needs) (λ c κs. search needs) returns)

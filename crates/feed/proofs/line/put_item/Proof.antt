@@ -6,16 +6,10 @@ use Rattle.feed.proofs.Put.{put-at, put-on}
 use Rattle.feed.proofs.line.put_item.Statement.{statement}
 use Rattle.feed.proofs.line.put_item.Tie as tie
 
-put-byte-requires : tie.Need-put-byte-requires
-put-byte-requires c κs = search needs
-
 put-decimal-requires : tie.Need-put-decimal-requires
 put-decimal-requires c κs =
     let start = c .before .before .before .before .before .before in
     omega (arith, put-at _ _ (start .pre .1) _ _ _ (omega (arith, start .pre .0)) (c .before .before .before .put-byte .ensures))
-
-same-length : tie.Need-same-length
-same-length c = search needs
 
 returns : tie.Need-returns
 returns c =
@@ -24,4 +18,4 @@ returns c =
     ∙ put-on _ _ (start .pre .1) _ _ _ _ (start .pre .0) (c .before .before .before .before .before .before .put-byte .ensures)
 
 pub put-item-spec : {M : Type 1} → statement M
-put-item-spec = tie.close (tie.spec put-byte-requires put-decimal-requires same-length returns)
+put-item-spec = tie.close (tie.spec (λ c κs. search needs) put-decimal-requires (λ c. search needs) returns)

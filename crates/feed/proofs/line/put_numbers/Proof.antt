@@ -23,22 +23,10 @@ loop-holds c =
     let ns = c .before .before .args .ns .now in
     rw (drop-length ns) (omega arith, refl, none-stands _ (11 * length ns) (omega arith))
 
-sub-i : tie.Need-sub-i Inv-loop μ-loop
-sub-i c = omega arith
-
-mul-put-item : tie.Need-mul-put-item Inv-loop μ-loop
-mul-put-item c = omega arith
-
-shared-slice-read-put-item : tie.Need-shared-slice-read-put-item Inv-loop μ-loop
-shared-slice-read-put-item c = omega arith
-
 put-item-requires : tie.Need-put-item-requires Inv-loop μ-loop
 put-item-requires c κs =
     let i = c .before .before .before .loop .i in
     omega (arith, ten-digits _ (c .before .shared-slice-known2 .given (i - 1) .fits))
-
-loop-less : tie.Need-loop-less Inv-loop μ-loop
-loop-less c = omega arith
 
 loop-again : tie.Need-loop-again Inv-loop μ-loop
 loop-again c =
@@ -73,11 +61,11 @@ put-numbers-spec =
     Inv-loop
     μ-loop
     loop-holds
-    sub-i
-    mul-put-item
-    shared-slice-read-put-item
+    (λ c. omega arith)
+    (λ c. omega arith)
+    (λ c. omega arith)
     put-item-requires
-    loop-less
+    (λ c. omega arith)
     loop-again
     same-length
     returns)

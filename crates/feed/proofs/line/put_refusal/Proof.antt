@@ -23,18 +23,6 @@ after-space c =
     let n = short (s .number .result) (omega arith) in
     c .put-byte .ensures ∙ put-on _ _ (omega arith) (space ∷ []) _ _ _ (omega arith) (c .before .before .put-numbers .ensures)
 
-number-requires : tie.Need-number-requires
-number-requires c κs = search needs
-
-cast-t7 : tie.Need-cast-t7
-cast-t7 c = search needs
-
-slice-aggregate-put-numbers : tie.Need-slice-aggregate-put-numbers
-slice-aggregate-put-numbers c = search needs
-
-put-numbers-requires : tie.Need-put-numbers-requires
-put-numbers-requires c κs = search needs
-
 put-byte-requires : tie.Need-put-byte-requires
 put-byte-requires c κs =
     let n = short (c .before .before .before .before .number .result) (omega arith) in
@@ -61,10 +49,10 @@ pub put-refusal-spec : {M : Type 1} → statement M
 put-refusal-spec =
     tie.close
     (tie.spec
-    number-requires
-    cast-t7
-    slice-aggregate-put-numbers
-    put-numbers-requires
+    (λ c κs. search needs)
+    (λ c. search needs)
+    (λ c. search needs)
+    (λ c κs. search needs)
     put-byte-requires
     put-byte-requires-2
     returns)

@@ -6,18 +6,6 @@ use Rattle.feed.specs.Line.{sampleText, putLast}
 use Rattle.feed.proofs.line.put_sample.Statement.{statement}
 use Rattle.feed.proofs.line.put_sample.Tie as tie
 
-enum-told : tie.Need-enum-told
-enum-told c = search needs
-
-put-record-requires : tie.Need-put-record-requires
-put-record-requires c κs = search needs
-
-enum-known-v : tie.Need-enum-known-v
-enum-known-v c = search needs
-
-put-refusal-requires : tie.Need-put-refusal-requires
-put-refusal-requires c κs = search needs
-
 returns : tie.Need-returns
 returns c =
     let s = c .before .before .before .before .before .args in (
@@ -33,4 +21,4 @@ returns-2 c =
     )
 
 pub put-sample-spec : {M : Type 1} → statement M
-put-sample-spec = tie.close (tie.spec enum-told put-record-requires enum-known-v put-refusal-requires returns returns-2)
+put-sample-spec = tie.close (tie.spec (λ c. search needs) (λ c κs. search needs) (λ c. search needs) (λ c κs. search needs) returns returns-2)

@@ -21,9 +21,6 @@ whole s b h = subst (λ (l : List ℕ). num l % 2 ^ 64 ≡ num l) (take-length s
 returns : tie.Need-returns
 returns c = (rw (ne-eqb _ _ (c .if1 .taken)), omega arith)
 
-word-requires : tie.Need-word-requires
-word-requires c κs = search needs
-
 -- the word is the number of the count
 counted : (c : tie.After-word) → c .word .result ≡ num (c .before .before .before .args .count .now)
 counted c =
@@ -51,4 +48,4 @@ returns-3 c =
     (rw (← counted (c .before), eq-eqb (length (s .count .now)) (s .width) (c .before .before .if1 .left), c .if2 .left), omega arith)
 
 pub announced-spec : {M : Type 1} → statement M
-announced-spec = tie.close (tie.spec returns word-requires mul-t13 returns-2 returns-3)
+announced-spec = tie.close (tie.spec returns (λ c κs. search needs) mul-t13 returns-2 returns-3)

@@ -1,19 +1,22 @@
 -- `feed::opening::profile_taken` meets its contract. Assumes nothing.
+use mathlib.Core.Path.{ap, _∙_}
+use Prim.Native.Nat.{ℕ}
+use lib.ListN.{length}
 use borrow.Author.Needs.{needs}
+use Rattle.refusal.specs.declared.Verdict.{Verdict}
+use Rattle.refusal.proofs.Numbers.{told-one}
+use Rattle.profile.specs.Profile.{judgeProfile}
+use Rattle.feed.specs.Opening.{isAccepted, taken}
 use Rattle.feed.proofs.opening.profile_taken.Statement.{statement}
 use Rattle.feed.proofs.opening.profile_taken.Tie as tie
 
-judge-requires : tie.Need-judge-requires
-judge-requires c κs = search needs
-
-profile-right-requires : tie.Need-profile-right-requires
-profile-right-requires c κs = search needs
-
-taken-requires : tie.Need-taken-requires
-taken-requires c κs = search needs
-
 returns : tie.Need-returns
-returns c = (cc, c .taken .ensures .1)
+returns c =
+    let s = c .before .before .before .before .args in
+    let j = c .before .before .judge .result in
+    let told = told-one (j .verdict, j .records) (judgeProfile (s .p .now)) (c .before .before .judge .ensures) in
+    let right = c .before .is-accepted .ensures ∙ ap (λ (z : Verdict × ℕ). isAccepted (z .0)) told in
+    (c .taken .ensures .0 ∙ ap (taken (s .ahead) (length (s .p .now))) right, c .taken .ensures .1)
 
 pub profile-taken-spec : {M : Type 1} → statement M
-profile-taken-spec = tie.close (tie.spec judge-requires profile-right-requires taken-requires returns)
+profile-taken-spec = tie.close (tie.spec (λ c κs. search needs) (λ c κs. search needs) (λ c κs. search needs) returns)

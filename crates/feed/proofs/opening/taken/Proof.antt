@@ -1,6 +1,6 @@
 -- `feed::opening::taken` meets its contract. Assumes nothing.
-use mathlib.Core.Path.{sym, ap, _∙_}
-use mathlib.Core.Bool.{Bool, cond}
+use mathlib.Core.Path.{_≡_, sym, ap, _∙_}
+use mathlib.Core.Bool.{Bool, true, false, _&&_, cond}
 use native.Mathlib.Omega.{arith}
 use lib.Dec.{eqb}
 use borrow.Author.Needs.{needs}
@@ -12,12 +12,6 @@ use Rattle.feed.specs.Opening.{taken}
 use Rattle.feed.proofs.opening.taken.Statement.{statement}
 use Rattle.feed.proofs.opening.taken.Tie as tie
 
-enum-known-ahead : tie.Need-enum-known-ahead
-enum-known-ahead c = search needs
-
-enum-told : tie.Need-enum-told
-enum-told c = search needs
-
 returns : tie.Need-returns
 unfolding taken
 returns c = search needs
@@ -26,19 +20,21 @@ returns-2 : tie.Need-returns-2
 unfolding taken
 returns-2 c =
     let s = c .before .before .before .before .args in
-    let size = c .before .before .ahead .given .0 .0 in (
-      sym (ap (λ (a : Part). taken a (s .came) (s .right)) (c .before .before .ahead .given .1) ∙ ap (λ (b : Bool). cond b (Bytes size) Broken) (c .if1 .taken)),
-      omega (arith, eqb-true (s .came) size (and-true-left (eqb (s .came) size) (s .right) (c .if1 .taken))),
+    let size = c .before .before .ahead .given .0 .0 in
+    let t : eqb (s .came) size && s .right ≡ true = c .if1 .taken in (
+      sym (ap (λ (a : Part). taken a (s .came) (s .right)) (c .before .before .ahead .given .1) ∙ ap (λ (b : Bool). cond b (Bytes size) Broken) t),
+      omega (arith, eqb-true (s .came) size (and-true-left (eqb (s .came) size) (s .right) t)),
     )
 
 returns-3 : tie.Need-returns-3
 unfolding taken
 returns-3 c =
     let s = c .before .before .before .before .args in
-    let size = c .before .before .ahead .given .0 .0 in (
-      sym (ap (λ (a : Part). taken a (s .came) (s .right)) (c .before .before .ahead .given .1) ∙ ap (λ (b : Bool). cond b (Bytes size) Broken) (c .if1 .left)),
+    let size = c .before .before .ahead .given .0 .0 in
+    let t : eqb (s .came) size && s .right ≡ false = c .if1 .left in (
+      sym (ap (λ (a : Part). taken a (s .came) (s .right)) (c .before .before .ahead .given .1) ∙ ap (λ (b : Bool). cond b (Bytes size) Broken) t),
       omega arith,
     )
 
 pub taken-spec : {M : Type 1} → statement M
-taken-spec = tie.close (tie.spec enum-known-ahead enum-told returns returns-2 returns-3)
+taken-spec = tie.close (tie.spec (λ c. search needs) (λ c. search needs) returns returns-2 returns-3)

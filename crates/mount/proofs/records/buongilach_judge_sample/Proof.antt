@@ -1,43 +1,14 @@
 -- `mount::records::buongilach_judge_sample` meets its contract. Assumes nothing.
-use mathlib.Core.Path.{_≡_, sym, _∙_}
-use Prim.Native.Nat.{ℕ}
-use native.Mathlib.Omega.{arith}
-use denote.Ref.{now}
-use Rattle.sample.specs.declared.Answer.the-variants.{Refused}
-use Rattle.sample.specs.Sample.{readRules, readSample}
-use Rattle.sample.specs.Exactly.{ReadExactly}
-use Rattle.sample.proofs.Exactly.{read-exactly}
+use Rattle.sample.specs.Sample.{readSample}
 use Rattle.mount.specs.Records.{sampleJudged}
-use Rattle.mount.proofs.Told.{number-refused, number-accepted}
+use Rattle.mount.proofs.Told.{number-of}
 use borrow.Author.Needs.{needs}
 use Rattle.mount.proofs.records.buongilach_judge_sample.Statement.{statement}
 use Rattle.mount.proofs.records.buongilach_judge_sample.Tie as tie
 
-read-requires : tie.Need-read-requires
-read-requires c κs = search needs
-
-enum-told : tie.Need-enum-told
-enum-told c = search needs
-
-enum-known-r : tie.Need-enum-known-r
-enum-known-r c = search needs
-
-number-requires : tie.Need-number-requires
-number-requires c κs = search needs
-
 returns : tie.Need-returns
-unfolding sampleJudged ReadExactly
-returns c =
-    let s = now (c .before .before .before .before .args .sample) in
-    let e = sym (c .before .before .read .ensures) ∙ c .enum-told .given .1 in
-    number-accepted (readRules s) Refused (readSample s) (read-exactly s) (λ r h. let z : _≡_ {A = ℕ} 0 1 = cc in omega arith)
-
-returns-2 : tie.Need-returns-2
-unfolding sampleJudged ReadExactly
-returns-2 c =
-    let s = now (c .before .before .before .before .before .before .args .sample) in
-    number-refused (readRules s) Refused (readSample s) (read-exactly s) _ _ (c .number .ensures) (sym (c .before .before .before .before .read .ensures) ∙ c .before .before .r .given .1)
+unfolding sampleJudged readSample
+returns c = number-of (c .verdict-number .ensures) (c .before .read .ensures)
 
 pub buongilach-judge-sample-spec : {M : Type 1} → statement M
-buongilach-judge-sample-spec =
-    tie.close (tie.spec read-requires enum-told enum-known-r number-requires returns returns-2)
+buongilach-judge-sample-spec = tie.close (tie.spec (λ c κs. search needs) (λ c κs. search needs) returns)

@@ -2,97 +2,94 @@
 use mathlib.Core.Path.{_≡_, sym, ap, _∙_}
 use mathlib.Core.List.{List, [], _∷_, _++_}
 use Prim.Native.Nat.{ℕ}
-use native.Mathlib.Omega.{arith}
 use lib.ListN.{drop}
 use denote.Ref.{now}
-use borrow.Author.Tests.{lt-ltb, le-ltb}
+use borrow.Author.Tests.{ltb-false}
 use Rattle.refusal.specs.Lowest.{Rule, lowest}
+use Rattle.refusal.specs.Number.{numberOfVerdict}
+use Rattle.refusal.specs.Steps.{kept}
 use Rattle.refusal.specs.Written.{noRoom}
 use Rattle.refusal.specs.declared.Refusal.the-variants.{NoRoom}
+use Rattle.refusal.specs.declared.Verdict.{Verdict}
+use Rattle.refusal.specs.declared.Verdict.the-variants.{Accepted}
 use Rattle.refusal.proofs.Order.{given, last-passed, append-passed, append-given}
-use Rattle.refusal.proofs.Exactly.{lowest-refused, lowest-accepted}
+use Rattle.refusal.proofs.Steps.{on-unless, off-unless}
+use Rattle.refusal.proofs.Numbers.{told-one}
 use Rattle.decision.specs.declared.Decision.{Decision}
-use Rattle.decision.specs.declared.Answer.the-variants.{Accepted, Refused}
-use Rattle.decision.specs.Decision.{decisionIn, readRules, readDecision}
-use Rattle.decision.specs.Exactly.{ReadExactly}
-use Rattle.decision.proofs.Exactly.{read-exactly}
-use Rattle.decision.proofs.RoundTrip.{read-inv}
-use Rattle.mount.specs.Records.{numbersOf, decisionRead}
+use Rattle.decision.specs.Decision.{decisionIn, none, readRules, readDecision}
+use Rattle.mount.specs.Records.{decisionNumbers, numbersOf, decisionRead}
 use Rattle.mount.proofs.Told.{told-refused, told-accepted}
 use borrow.Author.Needs.{needs}
 use Rattle.mount.proofs.records.buongilach_read_decision.Statement.{statement}
 use Rattle.mount.proofs.records.buongilach_read_decision.Tie as tie
 
-abbrev room : List ℕ → List Rule
-room numbers = (noRoom 5 numbers, NoRoom) ∷ []
+-- what the reader answers, of the record's own rules
+module _ (c : tie.After-read) where
+  abbrev decision : List ℕ
+  decision = now (c .before .before .before .args .decision)
 
--- past what the reader refuses, the room decides
-read : (s numbers : List ℕ) (d : Decision) → readDecision s ≡ Accepted d → lowest (readRules s ++ room numbers) ≡ lowest (room numbers)
-unfolding ReadExactly
-read s numbers d h =
-    append-passed (readRules s) (room numbers)
-    (lowest-accepted (readRules s) Refused (readDecision s) (read-exactly s) (λ r e. let z : _≡_ {A = ℕ} 0 1 = cc in omega arith))
+  abbrev numbers : List ℕ
+  numbers = now (c .before .before .before .args .numbers)
 
-read-requires : tie.Need-read-requires
-read-requires c κs = search needs
+  abbrev room : List Rule
+  room = (noRoom decisionNumbers numbers, NoRoom) ∷ []
 
-enum-known-r : tie.Need-enum-known-r
-enum-known-r c = search needs
+  judged : c .read .result .verdict ≡ lowest (readRules decision)
+  unfolding readDecision
+  judged = ap (λ (a : Verdict × Decision). a .0) (told-one _ _ (c .read .ensures))
 
-number-requires : tie.Need-number-requires
-number-requires c κs = search needs
+  -- past what the reader refuses, the room decides
+  past : c .read .result .verdict ≡ Accepted → lowest (readRules decision ++ room) ≡ lowest room
+  past h = append-passed (readRules decision) room (sym judged ∙ h)
 
-enum-known-d : tie.Need-enum-known-d
-enum-known-d c = search needs
-
-number-requires-2 : tie.Need-number-requires-2
-number-requires-2 c κs = search needs
+  reads : c .read .result .verdict ≡ Accepted → decisionIn decision ≡ c .read .result .decision
+  unfolding readDecision
+  reads h =
+      sym
+      (ap (λ (a : ℕ × Decision). a .1) (c .read .ensures)
+      ∙ ap (λ (v : Verdict). kept v (decisionIn decision) none) (sym judged ∙ h))
 
 returns : tie.Need-returns
-unfolding decisionRead noRoom
+unfolding decisionRead
 returns c =
-    let start = c .before .before .before .before .before .before .before .before .args in
-    let s = now (start .decision) in
-    let numbers = now (start .numbers) in
-    let e = sym (c .before .before .before .before .before .read .ensures) ∙ c .before .before .before .d .given .1 in
-    told-refused (numbersOf (decisionIn s)) numbers (c .number2 .ensures) (read s numbers _ e ∙ given _ NoRoom [] tt (lt-ltb _ _ (c .before .if1 .taken)))
-
-put-numbers-requires : tie.Need-put-numbers-requires
-put-numbers-requires c κs = search needs
+    let k = c .before .before .before in
+    told-refused (numbersOf (decisionIn (decision k))) (numbers k) (c .verdict-number .ensures ∙ ap numberOfVerdict (c .before .enum-told2 .given .1))
+    (append-given (readRules (decision k)) (room k) _ tt (sym (judged k) ∙ c .before .enum-told2 .given .1))
 
 returns-2 : tie.Need-returns-2
-unfolding decisionRead ReadExactly
+unfolding decisionRead noRoom
 returns-2 c =
-    let start = c .before .before .before .before .before .before .before .args in
-    let s = now (start .decision) in
-    let numbers = now (start .numbers) in
-    let e = sym (c .before .before .before .before .read .ensures) ∙ c .before .before .r .given .1 in
-    told-refused (numbersOf (decisionIn s)) numbers (c .number .ensures) (append-given (readRules s) (room numbers) _ tt (lowest-refused (readRules s) Refused (readDecision s) (read-exactly s) _ e))
+    let k = c .before .before .before .before .before .before in
+    told-refused (numbersOf (decisionIn (decision k))) (numbers k) (c .number .ensures)
+    (past k (c .before .before .before .before .enum-told .given .1)
+    ∙ given _ NoRoom [] tt (off-unless _ (sym (c .before .enum-told4 .given .1) ∙ c .before .before .before .unless .ensures)))
 
-same-length : tie.Need-same-length
-same-length c = search needs
+put-numbers-requires : tie.Need-put-numbers-requires
+put-numbers-requires c κs = ltb-false _ _ (on-unless _ (sym (c .before .before .enum-told3 .given .1) ∙ c .before .before .before .before .unless .ensures))
 
 returns-3 : tie.Need-returns-3
 unfolding decisionRead noRoom
 returns-3 c =
-    let start = c .before .before .before .before .before .before .before .before .before .before .before .args in
-    let s = now (start .decision) in
-    let numbers = now (start .numbers) in
-    let e = sym (c .before .before .before .before .before .before .before .before .read .ensures) ∙ c .before .before .before .before .before .before .d .given .1 in
-    ap (λ (ns : List ℕ). (0, ns)) (c .before .before .put-numbers .ensures ∙ sym (ap (λ (d : Decision). numbersOf d ++ drop 5 numbers) (read-inv s _ e .3)))
-    ∙ told-accepted (numbersOf (decisionIn s)) numbers (read s numbers _ e ∙ last-passed _ NoRoom (le-ltb _ _ (c .before .before .before .before .if1 .left)))
+    let k = c .before .before .before .before .before .before .before .before .before .before in
+    let a = c .before .before .before .before .before .before .before .before .enum-told .given .1 in
+    ap (λ (ns : List ℕ). (0, ns)) (c .before .before .put-numbers .ensures ∙ sym (ap (λ (d : Decision). numbersOf d ++ drop decisionNumbers (numbers k)) (reads k a)))
+    ∙ told-accepted (numbersOf (decisionIn (decision k))) (numbers k)
+    (past k a ∙ last-passed _ NoRoom (on-unless _ (sym (c .before .before .before .before .before .enum-told3 .given .1) ∙ c .before .before .before .before .before .before .before .unless .ensures)))
 
 pub buongilach-read-decision-spec : {M : Type 1} → statement M
 buongilach-read-decision-spec =
     tie.close
     (tie.spec
-    read-requires
-    enum-known-r
-    number-requires
-    enum-known-d
-    number-requires-2
+    (λ c κs. search needs)
+    (λ c. search needs)
+    (λ c. search needs)
+    (λ c κs. search needs)
     returns
-    put-numbers-requires
+    (λ c κs. search needs)
+    (λ c. search needs)
+    (λ c. search needs)
+    (λ c κs. search needs)
     returns-2
-    same-length
+    put-numbers-requires
+    (λ c. search needs)
     returns-3)

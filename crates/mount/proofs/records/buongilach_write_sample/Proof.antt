@@ -5,12 +5,14 @@ use mathlib.Core.List.{List}
 use Prim.Native.Nat.{ℕ}
 use lib.Dec.{eqb}
 use denote.Ref.{now}
+use Rattle.refusal.specs.Number.{told}
 use Rattle.refusal.specs.Written.{written}
 use Rattle.refusal.specs.declared.Refusal.the-variants.{WrongMark}
 use Rattle.refusal.specs.declared.Verdict.{Verdict}
 use Rattle.refusal.proofs.Order.{given, passed}
+use Rattle.refusal.proofs.Steps.{on-unless, off-unless}
 use Rattle.sample.specs.declared.RawSample.{RawSample}
-use Rattle.sample.specs.Sample.{rearOf, ofFields, bytesOf, writeRules, writeSample}
+use Rattle.sample.specs.Sample.{rearOf, ofFields, bytesOf, lostNotZero, writeRules, writeSample}
 use Rattle.bits.specs.Fields.{bit}
 use Rattle.mount.specs.Records.{sampleFields, sampleWritten}
 use Rattle.mount.proofs.Told.{told-of, told-refused}
@@ -19,75 +21,62 @@ use Rattle.mount.proofs.records.buongilach_write_sample.Statement.{stat
 use Rattle.mount.proofs.records.buongilach_write_sample.Tie as tie
 
 -- "when lost, the bit is 0"
-lost : (present : Bool) → eqb (bit present) 0 ≡ not present
+lost : (b : Bool) → eqb (bit (not b)) 0 ≡ b
 lost true = refl
 lost false = refl
 
-abbrev fields : tie.Start → List ℕ
-fields c = sampleFields (c .args .time) (c .args .present) (c .args .head) (c .args .speed) (c .args .front) (c .args .rear)
+module _ (c : tie.Start) where
+  abbrev fields : List ℕ
+  fields = sampleFields (c .args .time) (c .args .present) (c .args .head) (c .args .speed) (c .args .front) (c .args .rear)
 
-number-requires : tie.Need-number-requires
-number-requires c κs = search needs
+  abbrev out : List ℕ
+  out = now (c .args .out)
+
+  -- the test of the code is that of the fields
+  tested : lostNotZero fields ≡ (eqb (c .args .present) 0 && not (eqb (c .args .rear) 0))
+  tested = ap (λ (b : Bool). b && not (eqb (c .args .rear) 0)) (lost (eqb (c .args .present) 0))
 
 returns : tie.Need-returns
 unfolding sampleWritten
 returns c =
-    let start = c .before .before .before in
-    let out = now (start .args .out) in
-    let raw = ofFields (fields start) in
-    told-refused (bytesOf raw) out (c .number .ensures)
-    (given _ WrongMark (writeRules raw out) tt
-    (ap (λ (b : Bool). b && not (eqb (start .args .rear) 0)) (lost (start .args .present)) ∙ c .before .if1 .taken))
-
-float-of-requires : tie.Need-float-of-requires
-float-of-requires c κs = search needs
-
-float-of-requires-2 : tie.Need-float-of-requires-2
-float-of-requires-2 c κs = search needs
-
-rear-of-requires : tie.Need-rear-of-requires
-rear-of-requires c κs = search needs
-
-write-requires : tie.Need-write-requires
-write-requires c κs = search needs
-
-verdict-number-requires : tie.Need-verdict-number-requires
-verdict-number-requires c κs = search needs
-
-same-length : tie.Need-same-length
-same-length c = search needs
+    let k = c .before .before .before .before .before in
+    told-refused (bytesOf (ofFields (fields k))) (out k) (c .number .ensures)
+    (given _ WrongMark (writeRules (ofFields (fields k)) (out k)) tt
+    (tested k ∙ off-unless _ (sym (c .before .enum-told2 .given .1) ∙ c .before .before .before .unless .ensures)))
 
 returns-2 : tie.Need-returns-2
 unfolding sampleWritten writeSample
 returns-2 c =
-    let start = c .before .before .before .before .before .before .before .before .before .before in
-    let out = now (start .args .out) in
-    let raw = ofFields (fields start) in
+    let past = c .before .before .before .before .before .before .before .before in
+    let k = past .before .before .before .before in
+    let raw = ofFields (fields k) in
     let is-raw : _ ≡ raw = (λ i. record {
-      time = start .args .time;
-      head = start .args .head;
+      time = k .args .time;
+      head = k .args .head;
       speed = c .before .before .before .before .before .before .before .float-of .ensures i;
       front = c .before .before .before .before .before .before .float-of2 .ensures i;
-      rear = (c .before .before .before .before .before .rear-of .ensures ∙ sym (ap (λ (b : Bool). rearOf b (start .args .rear)) (lost (start .args .present)))) i;
+      rear = (c .before .before .before .before .before .rear-of .ensures ∙ sym (ap (λ (b : Bool). rearOf b (k .args .rear)) (lost (eqb (k .args .present) 0)))) i;
     }) in
     told-of (c .verdict-number .ensures)
     (c .before .before .before .write .ensures
-    ∙ ap (λ (x : RawSample). writeSample x out) is-raw
+    ∙ ap (λ (x : RawSample). told (writeSample x (out k))) is-raw
     ∙ sym
-    (ap (λ (v : Verdict). written v (bytesOf raw) out)
-    (passed _ WrongMark (writeRules raw out)
-    (ap (λ (b : Bool). b && not (eqb (start .args .rear) 0)) (lost (start .args .present)) ∙ c .before .before .before .before .before .before .before .before .if1 .left))))
+    (ap (λ (v : Verdict). told (written v (bytesOf raw) (out k)))
+    (passed _ WrongMark (writeRules raw (out k)) (tested k ∙ on-unless _ (sym (past .enum-told .given .1) ∙ past .before .before .unless .ensures)))))
 
 pub buongilach-write-sample-spec : {M : Type 1} → statement M
 buongilach-write-sample-spec =
     tie.close
     (tie.spec
-    number-requires
+    (λ c κs. search needs)
+    (λ c. search needs)
+    (λ c. search needs)
+    (λ c κs. search needs)
     returns
-    float-of-requires
-    float-of-requires-2
-    rear-of-requires
-    write-requires
-    verdict-number-requires
-    same-length
+    (λ c κs. search needs)
+    (λ c κs. search needs)
+    (λ c κs. search needs)
+    (λ c κs. search needs)
+    (λ c κs. search needs)
+    (λ c. search needs)
     returns-2)

@@ -1,51 +1,54 @@
 -- `session::admission::admit` meets its contract. Assumes nothing.
-use mathlib.Core.Path.{sym, _∙_}
+use mathlib.Core.Path.{_≡_, refl, sym, ap, _∙_}
+use mathlib.Core.Bool.{true}
 use borrow.Author.Tests.{not-true, not-false}
+use denote.Ref.{now}
+use Rattle.sample.specs.declared.RawSample.{RawSample}
+use Rattle.sample.specs.Sample.{layOut}
+use Rattle.sample.proofs.Told.{answer-is}
+use Rattle.session.specs.Session.{isOpen}
+use Rattle.session.specs.Steps.{noEntry, admitRaw}
 use Rattle.session.proofs.Rules.{not-open, not-laid-out, laid-out}
 use borrow.Author.Needs.{needs}
 use Rattle.session.proofs.admission.admit.Statement.{statement}
 use Rattle.session.proofs.admission.admit.Tie as tie
 
-is-open-requires : tie.Need-is-open-requires
-is-open-requires c κs = search needs
+-- past 1
+past-open : (c : tie.After-lay-out) → isOpen (c .before .before .before .before .before .before .args .x) ≡ true
+past-open c = sym (c .before .before .is-open .ensures) ∙ not-false _ (c .before .if1 .left)
+
+-- what the layout says
+laid : (c : tie.After-lay-out) → layOut (now (c .before .before .before .before .before .before .args .s)) ≡ (c .lay-out .result .verdict, c .lay-out .result .raw)
+laid c = answer-is (layOut (now (c .before .before .before .before .before .before .args .s))) (c .lay-out .result) _ (c .lay-out .ensures) refl
 
 returns : tie.Need-returns
-returns c = sym (not-open _ _ _ _ (sym (c .before .is-open .ensures) ∙ not-true _ (c .if1 .taken)))
-
-lay-out-requires : tie.Need-lay-out-requires
-lay-out-requires c κs = search needs
-
-enum-known-r : tie.Need-enum-known-r
-enum-known-r c = search needs
-
-enum-known-raw : tie.Need-enum-known-raw
-enum-known-raw c = search needs
-
-admit-raw-requires : tie.Need-admit-raw-requires
-admit-raw-requires c κs = search needs
+returns c = c .refused .ensures ∙ sym (not-open _ _ _ _ (sym (c .before .before .is-open .ensures) ∙ not-true _ (c .before .if1 .taken)))
 
 returns-2 : tie.Need-returns-2
 returns-2 c =
-    sym
-    (not-laid-out _ _ _ _ _ (sym (c .before .before .before .before .before .is-open .ensures) ∙ not-false _ (c .before .before .before .before .if1 .left))
-    (sym (c .before .before .before .lay-out .ensures) ∙ c .before .r .given .1))
+    let l = laid (c .before .before .before) in
+    let e = c .before .enum-told2 .given .1 in
+    c .refused2 .ensures ∙ ap noEntry e ∙ sym (not-laid-out _ _ _ _ (past-open (c .before .before .before)) _ ((λ i. l i .0) ∙ e))
 
 returns-3 : tie.Need-returns-3
 returns-3 c =
+    let a = c .before .before .before .before .before .before .before .before .before .before .args in
+    let l = laid (c .before .before .before .before) in
     c .admit-raw .ensures
-    ∙ sym
-    (laid-out _ _ _ _ _ (sym (c .before .before .before .before .before .before .is-open .ensures) ∙ not-false _ (c .before .before .before .before .before .if1 .left))
-    (sym (c .before .before .before .before .lay-out .ensures) ∙ c .before .before .raw .given .1))
+    ∙ ap (λ (raw : RawSample). admitRaw (a .x) raw (now (a .p)) (now (a .t))) (λ i. sym l i .1)
+    ∙ sym (laid-out _ _ _ _ (past-open (c .before .before .before .before)) ((λ i. l i .0) ∙ c .before .before .enum-told .given .1))
 
 pub admit-spec : {M : Type 1} → statement M
 admit-spec =
     tie.close
     (tie.spec
-    is-open-requires
+    (λ c κs. search needs)
+    (λ c κs. search needs)
     returns
-    lay-out-requires
-    enum-known-r
-    enum-known-raw
-    admit-raw-requires
+    (λ c κs. search needs)
+    (λ c. search needs)
+    (λ c. search needs)
+    (λ c κs. search needs)
     returns-2
+    (λ c κs. search needs)
     returns-3)

@@ -1,119 +1,120 @@
 -- `session::admission::admit_raw` meets its contract: the judges' answers decide the rules one after the other. Assumes nothing.
-use mathlib.Core.Path.{_≡_, sym, ap, _∙_}
-use mathlib.Core.Bool.{false}
+use mathlib.Core.Path.{_≡_, refl, sym, ap, _∙_}
 use denote.Ref.{now}
-use Rattle.profile.specs.Profile as profile
-use Rattle.targets.specs.Targets as targets
-use Rattle.sample.specs.Sample.{badReading, sampleOf}
-use Rattle.sample.proofs.Answers.{judged-accepted, judged-refused}
-use Rattle.session.specs.declared.Entry.the-variants.{Admitted}
+use Rattle.refusal.specs.declared.Verdict.{Verdict}
+use Rattle.refusal.specs.declared.Verdict.the-variants.{Accepted}
+use Rattle.refusal.proofs.Numbers.{told-one}
+use Rattle.profile.specs.Profile.{judgeProfile}
+use Rattle.targets.specs.Targets.{judgeTargets}
+use Rattle.sample.specs.Sample.{judgement, judgeSample}
+use Rattle.sample.proofs.Answers.{judged-accepted}
+use Rattle.sample.proofs.Told.{judged-is}
 use Rattle.session.specs.Sample.{wrongTime, notCovered}
-use Rattle.session.proofs.Rules.{profile-refused, profile-counted, targets-refused, targets-counted, raw-profile, raw-targets, raw-reading, raw-time, raw-cover, raw-admitted}
+use Rattle.session.specs.Steps.{noEntry}
+use Rattle.session.proofs.Rules.{admit-raw-is}
 use borrow.Author.Needs.{needs}
 use Rattle.session.proofs.admission.admit_raw.Statement.{statement}
 use Rattle.session.proofs.admission.admit_raw.Tie as tie
 
--- past the profile
-profile-right : (c : tie.After-enum-told) → profile.brokenIn (now (c .before .before .before .before .before .args .p)) ≡ false
-profile-right c = profile-counted _ _ (sym (c .before .before .judge .ensures) ∙ c .enum-told .given .1)
+-- what the judges say
+profile-said : (c : tie.After-judge) → judgeProfile (now (c .before .before .before .args .p)) .0 ≡ c .judge .result .verdict
+profile-said c =
+    let judged = c .judge .result in
+    sym (λ i. told-one (judged .verdict, judged .records) (judgeProfile (now (c .before .before .before .args .p))) (c .judge .ensures) i .0)
 
--- past the targets
-targets-right : (c : tie.After-enum-told3) → targets.brokenIn (now (c .before .before .before .before .before .before .before .before .args .t)) ≡ false
-targets-right c = targets-counted _ _ (sym (c .before .before .judge2 .ensures) ∙ c .enum-told3 .given .1)
+targets-said : (c : tie.After-judge2) → judgeTargets (now (c .before .before .before .before .before .before .args .t)) .0 ≡ c .judge2 .result .verdict
+targets-said c =
+    let judged = c .judge2 .result in
+    sym (λ i. told-one (judged .verdict, judged .records) (judgeTargets (now (c .before .before .before .before .before .before .args .t))) (c .judge2 .ensures) i .0)
 
--- past the readings
-readings-right : (c : tie.After-m)
-    → (badReading (c .before .before .before .before .before .before .before .before .before .before .before .args .raw) ≡ false) × (c .m .given .0 .0 ≡ sampleOf (c .before .before .before .before .before .before .before .before .before .before .before .args .raw))
-readings-right c = judged-accepted _ _ (sym (c .before .before .judge3 .ensures) ∙ c .m .given .1)
+readings-said : (c : tie.After-judge3) → judgeSample (c .before .before .before .before .before .before .before .before .before .args .raw) ≡ (c .judge3 .result .verdict, c .judge3 .result .sample)
+readings-said c = judged-is (judgeSample (c .before .before .before .before .before .before .before .before .before .args .raw)) (c .judge3 .result) _ (c .judge3 .ensures) refl
 
-judge-requires : tie.Need-judge-requires
-judge-requires c κs = search needs
+-- past 6
+past-profile : (c : tie.After-enum-told) → judgeProfile (now (c .before .before .before .before .before .args .p)) .0 ≡ Accepted
+past-profile c = profile-said (c .before .before) ∙ c .enum-told .given .1
 
-enum-told : tie.Need-enum-told
-enum-told c = search needs
+-- past 7
+past-targets : (c : tie.After-enum-told3) → judgeTargets (now (c .before .before .before .before .before .before .before .before .args .t)) .0 ≡ Accepted
+past-targets c = targets-said (c .before .before) ∙ c .enum-told3 .given .1
 
-enum-told-2 : tie.Need-enum-told-2
-enum-told-2 c = search needs
+-- past 8: the sample is the raw one's
+past-readings : (c : tie.After-enum-told5) → judgeSample (c .before .before .before .before .before .before .before .before .before .before .before .args .raw) ≡ (Accepted, c .before .before .judge3 .result .sample)
+past-readings c = readings-said (c .before .before) ∙ ap (λ (v : Verdict). (v, c .before .before .judge3 .result .sample)) (c .enum-told5 .given .1)
 
 returns : tie.Need-returns
-returns c = sym (raw-profile _ _ _ _ (profile-refused _ _ (sym (c .before .before .judge .ensures) ∙ c .enum-told2 .given .1)))
-
-judge-requires-2 : tie.Need-judge-requires-2
-judge-requires-2 c κs = search needs
-
-enum-told-3 : tie.Need-enum-told-3
-enum-told-3 c = search needs
-
-enum-told-4 : tie.Need-enum-told-4
-enum-told-4 c = search needs
+returns c =
+    let e = c .before .enum-told2 .given .1 in
+    c .refused .ensures ∙ ap noEntry e ∙ sym (admit-raw-is _ _ _ _ _ _ _ _ _ (profile-said (c .before .before .before) ∙ e) refl refl refl refl)
 
 returns-2 : tie.Need-returns-2
 returns-2 c =
-    sym (raw-targets _ _ _ _ (profile-right (c .before .before .before)) (targets-refused _ _ (sym (c .before .before .judge2 .ensures) ∙ c .enum-told4 .given .1)))
-
-judge-requires-3 : tie.Need-judge-requires-3
-judge-requires-3 c κs = search needs
-
-enum-known-m : tie.Need-enum-known-m
-enum-known-m c = search needs
-
-enum-told-5 : tie.Need-enum-told-5
-enum-told-5 c = search needs
+    let e = c .before .enum-told4 .given .1 in
+    c .refused2 .ensures
+    ∙ ap noEntry e
+    ∙ sym (admit-raw-is _ _ _ _ _ _ _ _ _ (past-profile (c .before .before .before .before)) (targets-said (c .before .before .before) ∙ e) refl refl refl)
 
 returns-3 : tie.Need-returns-3
 returns-3 c =
-    sym
-    (raw-reading _ _ _ _ (profile-right (c .before .before .before .before .before .before)) (targets-right (c .before .before .before))
-    (judged-refused _ _ (sym (c .before .before .judge3 .ensures) ∙ c .enum-told5 .given .1) .0))
-
-wrong-time-requires : tie.Need-wrong-time-requires
-wrong-time-requires c κs = search needs
+    let e = c .before .enum-told6 .given .1 in
+    c .refused3 .ensures
+    ∙ ap noEntry e
+    ∙ sym
+    (admit-raw-is _ _ _ _ _ _ _ _ _ (past-profile (c .before .before .before .before .before .before .before)) (past-targets (c .before .before .before .before))
+    ((λ i. readings-said (c .before .before .before) i .0) ∙ e) refl refl)
 
 returns-4 : tie.Need-returns-4
 returns-4 c =
-    let m = readings-right (c .before .before .before) in
-    sym
-    (raw-time _ _ _ _ (profile-right (c .before .before .before .before .before .before .before .before .before)) (targets-right (c .before .before .before .before .before .before)) (m .0)
-    (ap (wrongTime _) (sym (m .1)) ∙ sym (c .before .wrong-time .ensures) ∙ c .if1 .taken))
-
-not-covered-requires : tie.Need-not-covered-requires
-not-covered-requires c κs = search needs
+    let j = past-readings (c .before .before .before .before) in
+    let m = judged-accepted _ _ j .1 in
+    c .refused4 .ensures
+    ∙ sym
+    (admit-raw-is _ _ _ _ _ _ _ _ _ (past-profile (c .before .before .before .before .before .before .before .before .before .before)) (past-targets (c .before .before .before .before .before .before .before)) (λ i. j i .0)
+    (ap (wrongTime _) (sym m) ∙ sym (c .before .before .wrong-time .ensures) ∙ c .before .if1 .taken) refl)
 
 returns-5 : tie.Need-returns-5
 returns-5 c =
-    let m = readings-right (c .before .before .before .before .before .before) in
-    sym
-    (raw-cover _ _ _ _ (profile-right (c .before .before .before .before .before .before .before .before .before .before .before .before)) (targets-right (c .before .before .before .before .before .before .before .before .before)) (m .0)
-    (ap (wrongTime _) (sym (m .1)) ∙ sym (c .before .before .before .before .wrong-time .ensures) ∙ c .before .before .before .if1 .left)
-    (ap (notCovered _ _) (sym (m .1)) ∙ sym (c .before .not-covered .ensures) ∙ c .if2 .taken))
+    let j = past-readings (c .before .before .before .before .before .before .before) in
+    let m = judged-accepted _ _ j .1 in
+    c .refused5 .ensures
+    ∙ sym
+    (admit-raw-is _ _ _ _ _ _ _ _ _ (past-profile (c .before .before .before .before .before .before .before .before .before .before .before .before .before)) (past-targets (c .before .before .before .before .before .before .before .before .before .before)) (λ i. j i .0)
+    (ap (wrongTime _) (sym m) ∙ sym (c .before .before .before .before .before .wrong-time .ensures) ∙ c .before .before .before .before .if1 .left)
+    (ap (notCovered _ _) (sym m) ∙ sym (c .before .before .not-covered .ensures) ∙ c .before .if2 .taken))
 
 returns-6 : tie.Need-returns-6
 returns-6 c =
-    let m = readings-right (c .before .before .before .before .before .before) in
-    ap Admitted (m .1)
+    let j = past-readings (c .before .before .before .before .before .before) in
+    let m = judged-accepted _ _ j .1 in
+    ap (judgement Accepted) m
     ∙ sym
-    (raw-admitted _ _ _ _ (profile-right (c .before .before .before .before .before .before .before .before .before .before .before .before)) (targets-right (c .before .before .before .before .before .before .before .before .before)) (m .0)
-    (ap (wrongTime _) (sym (m .1)) ∙ sym (c .before .before .before .before .wrong-time .ensures) ∙ c .before .before .before .if1 .left)
-    (ap (notCovered _ _) (sym (m .1)) ∙ sym (c .before .not-covered .ensures) ∙ c .if2 .left))
+    (admit-raw-is _ _ _ _ _ _ _ _ _ (past-profile (c .before .before .before .before .before .before .before .before .before .before .before .before)) (past-targets (c .before .before .before .before .before .before .before .before .before)) (λ i. j i .0)
+    (ap (wrongTime _) (sym m) ∙ sym (c .before .before .before .before .wrong-time .ensures) ∙ c .before .before .before .if1 .left)
+    (ap (notCovered _ _) (sym m) ∙ sym (c .before .not-covered .ensures) ∙ c .if2 .left))
 
 pub admit-raw-spec : {M : Type 1} → statement M
 admit-raw-spec =
     tie.close
     (tie.spec
-    judge-requires
-    enum-told
-    enum-told-2
+    (λ c κs. search needs)
+    (λ c. search needs)
+    (λ c. search needs)
+    (λ c κs. search needs)
     returns
-    judge-requires-2
-    enum-told-3
-    enum-told-4
+    (λ c κs. search needs)
+    (λ c. search needs)
+    (λ c. search needs)
+    (λ c κs. search needs)
     returns-2
-    judge-requires-3
-    enum-known-m
-    enum-told-5
+    (λ c κs. search needs)
+    (λ c. search needs)
+    (λ c. search needs)
+    (λ c κs. search needs)
     returns-3
-    wrong-time-requires
+    (λ c κs. search needs)
+    (λ c κs. search needs)
     returns-4
-    not-covered-requires
+    (λ c κs. search needs)
+    (λ c κs. search needs)
     returns-5
     returns-6)

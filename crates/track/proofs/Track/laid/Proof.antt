@@ -8,11 +8,12 @@ use mir.Syntax.{w16}
 use mir.Facts.{toZ-ofZ}
 use borrow.Author.Needs.{needs}
 use Rattle.profile.specs.declared.Segment.{Segment}
-use Rattle.profile.specs.Profile.{count, segmentAt}
+use Rattle.profile.specs.Profile.{most, count, segmentAt}
+use Rattle.profile.proofs.Sound.{past-last}
 use Rattle.bits.specs.Tables.{upTo}
-use Rattle.track.specs.Track.{most, layOf}
+use Rattle.track.specs.Track.{layOf}
 use Rattle.bits.proofs.UpTo.{filled, fill, filled-up}
-use Rattle.track.proofs.Lay.{nothing, startAt, gradeAt, curvatureAt, past}
+use Rattle.track.proofs.Lay.{nothing, startAt, gradeAt, curvatureAt}
 use Rattle.track.proofs.Track.laid.Statement.{statement}
 use Rattle.track.proofs.Track.laid.Tie as tie
 
@@ -20,7 +21,7 @@ module _ (p : List ℕ) (n : ℕ) (e : n ≡ min (count p) most) where
   -- past the last record an array is as it began
   column : {A : Type 0} (field : Segment → A) (xs : List A) → xs ≡ filled (λ k. field (segmentAt p k)) (field nothing) most n → xs ≡ upTo most (λ k. field (segmentAt p k))
   column field xs h =
-      h ∙ filled-up (λ k. field (segmentAt p k)) (field nothing) most n (omega arith) (λ i a b. ap field (past p i (omega arith)))
+      h ∙ filled-up (λ k. field (segmentAt p k)) (field nothing) most n (omega arith) (λ i a b. ap field (past-last p i (omega arith)))
 
   whole : (starts : List ℕ) (grades : List ℤ) (curvatures : List ℕ)
       → starts ≡ filled (startAt p) 0 most n → grades ≡ filled (gradeAt p) (pos 0) most n → curvatures ≡ filled (curvatureAt p) 0 most n

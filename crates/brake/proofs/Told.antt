@@ -1,0 +1,61 @@
+-- What is told of a brake tells the brake: no two are told alike. Assumes nothing.
+use mathlib.Core.Path.{_≡_, refl, sym, ap, ap₂, _∙_}
+use mathlib.Core.Bool.{Bool}
+use mathlib.Core.List.{List}
+use Prim.Native.Nat.{ℕ, zero, suc}
+use lib.Dec.{eqb}
+use lib.ListN.{getD}
+use Rattle.bits.proofs.Bit.{of-bit}
+use Rattle.brake.specs.declared.State.{State}
+use Rattle.brake.specs.declared.State.the-variants.{Charged, ApplyingService, HoldingService, ApplyingEmergency, HoldingEmergency, Charging}
+use Rattle.brake.specs.declared.Brake.{Brake}
+use Rattle.brake.specs.State.{stateNumber}
+use Rattle.brake.specs.Brake.{brakeTold}
+
+-- ---- the state
+
+stateAt : ℕ → State
+stateAt zero = Charged
+stateAt (suc zero) = ApplyingService
+stateAt (suc (suc zero)) = HoldingService
+stateAt (suc (suc (suc zero))) = ApplyingEmergency
+stateAt (suc (suc (suc (suc zero)))) = HoldingEmergency
+stateAt (suc (suc (suc (suc (suc n))))) = Charging
+
+state-back : (s : State) → stateAt (stateNumber s) ≡ s
+unfolding stateAt
+state-back Charged = refl
+state-back ApplyingService = refl
+state-back HoldingService = refl
+state-back ApplyingEmergency = refl
+state-back HoldingEmergency = refl
+state-back Charging = refl
+
+pub state-one : (s t : State) → stateNumber s ≡ stateNumber t → s ≡ t
+state-one s t h = sym (state-back s) ∙ ap stateAt h ∙ state-back t
+
+-- ---- the brake
+
+abbrev held : State → List ℕ → Bool → Brake
+held state ns sampled = record {
+  state = state;
+  hold = getD ns 1 0;
+  a = getD ns 2 0;
+  b = getD ns 3 0;
+  equalization = getD ns 4 0;
+  fall = getD ns 5 0;
+  «last_front» = getD ns 6 0;
+  «last_rear» = getD ns 7 0;
+  «last_time» = getD ns 8 0;
+  sampled = sampled;
+}
+
+brakeAt : List ℕ → Brake
+brakeAt ns = held (stateAt (getD ns 0 0)) ns (eqb (getD ns 9 0) 1)
+
+brake-back : (k : Brake) → brakeAt (brakeTold k) ≡ k
+unfolding brakeAt
+brake-back k = ap₂ (λ (s : State) (b : Bool). held s (brakeTold k) b) (state-back (k .state)) (of-bit (k .sampled))
+
+pub brake-one : (j k : Brake) → brakeTold j ≡ brakeTold k → j ≡ k
+brake-one j k h = sym (brake-back j) ∙ ap brakeAt h ∙ brake-back k

@@ -1,0 +1,18 @@
+-- `held::put_front` meets its contract. Assumes nothing.
+use Rattle.bits.proofs.Bit.{same-bit}
+use borrow.Author.Needs.{needs}
+use Rattle.held.proofs.put_front.Statement.{statement}
+use Rattle.held.proofs.put_front.Tie as tie
+
+returns : tie.Need-returns
+returns c =
+    let start = c .before .before .before .before .before .before .before .before .before .before in
+    rw (c .before .before .put-fields .ensures, start .state-number .ensures, same-bit (start .before .before .before .args .x .brake .sampled))
+
+pub put-front-spec : {M : Type 1} → statement M
+put-front-spec =
+    tie.close
+    (tie.spec
+    (λ c κs. search needs) (λ c. search needs) (λ c. search needs) (λ c. search needs) (λ c. search needs) (λ c. search needs)
+    (λ c. search needs) (λ c. search needs) (λ c κs. search needs) (λ c. search needs)
+    returns)

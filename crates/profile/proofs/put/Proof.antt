@@ -1,0 +1,27 @@
+-- `profile::put` meets its contract. Assumes nothing.
+use mathlib.Core.Path.{_≡_}
+use native.Mathlib.Omega.{arith}
+use mir.Syntax.{w16}
+use mir.Val.{toZ, ofZ}
+use borrow.Author.Needs.{needs}
+use Rattle.profile.proofs.Grade.{in-eleven}
+use Rattle.profile.proofs.Sound.{ranged}
+use Rattle.profile.proofs.put.Statement.{statement}
+use Rattle.profile.proofs.put.Tie as tie
+
+-- the grade as the machine holds it
+held : (c : tie.After-struct-told) → toZ w16 (ofZ w16 (c .before .before .before .args .g .grade)) ≡ c .before .before .before .args .g .grade
+held c = search needs
+
+grade-bits-requires : tie.Need-grade-bits-requires
+grade-bits-requires c κs = rw (held c) (in-eleven (c .before .before .before .args .g .grade) (ranged (c .before .before .before .args .g) (c .before .before .before .pre) .grade))
+
+returns : tie.Need-returns
+returns c =
+    let told = c .before .before .before .before .before .before .before .before in
+    rw (c .before .before .put-fields .ensures, c .before .before .before .before .before .before .before .grade-bits .ensures, held told)
+
+pub put-spec : {M : Type 1} → statement M
+put-spec =
+    tie.close
+    (tie.spec (λ c. omega arith) grade-bits-requires (λ c. omega arith) (λ c. omega arith) (λ c. omega arith) (λ c κs. omega arith) (λ c. omega arith) returns)
