@@ -44,7 +44,7 @@ some c =
 loop-again : tie.Need-loop-again Inv-loop μ-loop
 loop-again c =
     let l = c .before .before .before .before .loop in
-    judged-next segments _ _ _ (l .k) (l .good) (l .before) _ _ _ (l .inv) (c .before .before .before .loop-test .taken) (c .before .before .segment-at .ensures) (c .before .spare-zero .ensures)
+    judged-next segments _ _ _ (l .k) (l .good) (l .before) _ _ _ (l .inv) (omega (arith, c .before .before .before .loop-test .taken)) (c .before .before .segment-at .ensures) (c .before .spare-zero .ensures)
     (c .good-after .ensures)
 
 -- past the records
@@ -56,7 +56,7 @@ is-kept c =
     let p = number .before .before .before .before .args .p .now in
     let l = c .before .before .before .loop in
     let a = eqb (length p % size) 0 in
-    kept-judged segments (count p) _ _ a (counted-is a (count p)) (whole-is number) (l .k) (l .good) (l .before) _ (l .inv) (c .before .before .loop-test .left)
+    kept-judged segments (count p) _ _ a (counted-is a (count p)) (whole-is number) (l .k) (l .good) (l .before) _ (l .inv) (omega (arith, c .before .before .loop-test .left))
     (c .only-ends .ensures ∙ ap ends (c .before .segment-at2 .ensures) ∙ closed-last segments (count p) (segmentAt p) (omega (arith, some number)))
 
 returns-2 : tie.Need-returns-2 Inv-loop μ-loop
