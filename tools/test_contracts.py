@@ -52,8 +52,12 @@ class Contracts(unittest.TestCase):
         self.assert_fault("consist::is_light has a row in docs/CONTRACTS.md and is no public function")
 
     def test_no_theorem(self):
-        self.change("crates/session/proofs/Unique.antt", "pub open-one ", "pub open-two ")
-        self.assert_fault("session::open has no theorem open-one")
+        self.change("crates/walk/proofs/Unique.antt", "pub predict-one ", "pub predict-two ")
+        self.assert_fault("walk::predict has no theorem predict-one")
+
+    def test_not_among_the_calls(self):
+        self.change("crates/demands/specs/Calls.antt", "pub session-open ", "pub session-opens ")
+        self.assert_fault("session::open has no theorem session-open")
 
     def test_no_wrong_program(self):
         os.remove(os.path.join(self.copy, "crates/session/must-fail/six_seconds.edit"))

@@ -10,7 +10,7 @@ use Rattle.brake.specs.declared.State.the-variants.{ApplyingService, App
 use Rattle.brake.specs.declared.Brake.{Brake}
 use Rattle.brake.specs.declared.Reading.{Reading}
 use Rattle.brake.specs.Rules.{fallService, fallInService, fallInEmergency}
-use Rattle.brake.specs.Sound.{mostB, mostFall, Balance, Sound, Ready}
+use Rattle.brake.specs.Sound.{mostB, mostFall, Balance, Sound, Usable}
 
 pub service-fall-most : (c : Consist) → consist.Sound c → fallService c ≤ mostFall
 service-fall-most c s =
@@ -20,7 +20,7 @@ service-fall-most c s =
 pub balanced : (c : Consist) (k : Brake) (state : State) → k .state ≡ state → Sound c k → Balance state (c .set) (k .a) (k .b) (k .equalization)
 balanced c k state e s = subst (λ (state : State). Balance state (c .set) (k .a) (k .b) (k .equalization)) e (s .balance)
 
-module _ (c : Consist) (k : Brake) (r : Reading) (s : Ready c k) where
+module _ (c : Consist) (k : Brake) (r : Reading) (s : Usable c k) where
   pub service-room : k .state ≡ ApplyingService → fallInService k r .b ≤ mostB
   unfolding fallInService
   service-room e =

@@ -1,18 +1,14 @@
--- The figures and the worked cases, computed. Assumes nothing.
+-- The worked cases, computed. Assumes nothing.
 use mathlib.Core.Path.{refl}
 use Rattle.whole.specs.Floor.{floorDiv}
 use Rattle.whole.specs.Ceiling.{ceilDiv}
-use Rattle.brake.specs.Readings.{elapsedOf, rateOf, rearOf, nominalOf, readingOf, application, release, emergency}
+use Rattle.brake.specs.Readings.{elapsedOf, rateOf, rearTaken, nominalOf, readingOf, application, release, emergency}
 use Rattle.brake.specs.Rules.{startEmergency, startService, startApplying, startCharging, fallInService, fallInEmergency, inCharged, recharged, inCharging, fallOrHold, inApplyingService, inHoldingService, inApplyingEmergency, inHoldingEmergency, updateOf}
 use Rattle.brake.specs.Figures.{Figures}
 
 pub figures : Figures
-unfolding floorDiv ceilDiv elapsedOf rateOf rearOf nominalOf readingOf application release emergency startEmergency startService startApplying startCharging fallInService fallInEmergency inCharged recharged inCharging fallOrHold inApplyingService inHoldingService inApplyingEmergency inHoldingEmergency updateOf
+unfolding floorDiv ceilDiv elapsedOf rateOf rearTaken nominalOf readingOf application release emergency startEmergency startService startApplying startCharging fallInService fallInEmergency inCharged recharged inCharging fallOrHold inApplyingService inHoldingService inApplyingEmergency inHoldingEmergency updateOf
 figures = record {
-  equalization = refl;
-  emergency = refl;
-  then-A = refl;
-  fall = refl;
   half-down = refl;
   rear-higher = refl;
   not-below = refl;

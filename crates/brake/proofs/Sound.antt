@@ -13,14 +13,14 @@ use Rattle.brake.specs.declared.State.{State}
 use Rattle.brake.specs.declared.State.the-variants.{Charged, ApplyingService, HoldingService, ApplyingEmergency, HoldingEmergency, Charging}
 use Rattle.brake.specs.declared.Brake.{Brake}
 use Rattle.brake.specs.declared.Reading.{Reading}
-use Rattle.brake.specs.Brake.{opened, withState, withHold, withA, withLast}
-use Rattle.brake.specs.Readings.{rearOf, nominalOf, readingOf, application, release, emergency}
+use Rattle.brake.specs.Brake.{atOpening, withState, withHold, withA, withLast}
+use Rattle.brake.specs.Readings.{rearTaken, nominalOf, readingOf, application, release, emergency}
 use Rattle.brake.specs.Rules.{startEmergency, startService, startApplying, startCharging, levelOf, fallInService, fallInEmergency, inCharged, recharged, inCharging, fallOrHold, inApplyingService, inHoldingService, inApplyingEmergency, inHoldingEmergency, ruleOf, updateOf}
-use Rattle.brake.specs.Sound.{mostPressure, mostTime, Balance, Sound, Ready, rearMost, InRange}
+use Rattle.brake.specs.Sound.{mostPressure, mostTime, Balance, Sound, Usable, rearMost, InRange}
 use Rattle.brake.proofs.Falls.{service-fall-most, balanced}
 
-pub opened-sound : (c : Consist) → consist.Sound c → Sound c (opened c)
-opened-sound c s = omega arith
+pub at-opening-sound : (c : Consist) → consist.Sound c → Sound c (atOpening c)
+at-opening-sound c s = omega arith
 
 -- A and B together, in every state
 pub sum-most : (c : Consist) (k : Brake) → Sound c k → 12 * k .a + 2 * k .b ≤ 12 * c .set
@@ -72,7 +72,7 @@ module _ (c : Consist) where
 
 -- ---- the rules
 
-module _ (c : Consist) (k : Brake) (r : Reading) (s : Ready c k) (nominal : r .nominal ≤ c .set) (front : r .front ≤ mostPressure) where
+module _ (c : Consist) (k : Brake) (r : Reading) (s : Usable c k) (nominal : r .nominal ≤ c .set) (front : r .front ≤ mostPressure) where
   emergency-sound : 5 * k .a + 2 * k .b ≤ 5 * c .set → Sound c (startEmergency k (r .nominal))
   unfolding startEmergency ceilDiv
   emergency-sound h = omega arith
@@ -89,22 +89,22 @@ module _ (c : Consist) (k : Brake) (r : Reading) (s : Ready c k) (nominal : r .n
   unfolding startCharging
   charging-sound = omega arith
 
-  held-sound : Sound c (withHold k (max (k .hold) (r .front)))
-  held-sound = hold-sound c k _ (omega arith) (s .brake)
+  raised-sound : Sound c (withHold k (max (k .hold) (r .front)))
+  raised-sound = hold-sound c k _ (omega arith) (s .brake)
 
   in-charged : k .state ≡ Charged → Sound c (inCharged c k r)
   unfolding inCharged
   in-charged e =
       let t = balanced c k Charged e (s .brake) in
-      either c (application k r) _ _ (applying-sound (omega arith)) held-sound
+      either c (application k r) _ _ (applying-sound (omega arith)) raised-sound
 
   in-charging : k .state ≡ Charging → Sound c (inCharging c k r)
   unfolding inCharging recharged
   in-charging e =
       let t = balanced c k Charging e (s .brake) in
-      let held = withHold k (max (k .hold) (r .front)) in
-      let higher = withA held (min (r .nominal) (k .a + c .recharge * r .elapsed)) in
-      let full : Sound c (withState held Charged) = omega arith in
+      let raised = withHold k (max (k .hold) (r .front)) in
+      let higher = withA raised (min (r .nominal) (k .a + c .recharge * r .elapsed)) in
+      let full : Sound c (withState raised Charged) = omega arith in
       let more : Sound c (withState higher Charging) = omega arith in
       either c (application k r) _ _ (applying-sound (omega arith)) (either c (leb (r .nominal) (k .a)) _ _ full (from c higher Charging e more))
 
@@ -114,10 +114,10 @@ module _ (c : Consist) (k : Brake) (r : Reading) (s : Ready c k) (nominal : r .n
       let t = balanced c k ApplyingService e (s .brake) in
       let fallen = fallInService k r in
       let falling : Sound c (withState fallen ApplyingService) = omega arith in
-      let held : Sound c (withHold (withState fallen HoldingService) (r .front)) = omega arith in
+      let holding : Sound c (withHold (withState fallen HoldingService) (r .front)) = omega arith in
       either c (emergency r) _ _ (applying-sound (omega arith))
       (either c (release r) _ _ charging-sound
-      (either c (leb (fallen .a) (levelOf k r)) _ _ held (from c fallen ApplyingService e falling)))
+      (either c (leb (fallen .a) (levelOf k r)) _ _ holding (from c fallen ApplyingService e falling)))
 
   in-holding-service : k .state ≡ HoldingService → Sound c (inHoldingService c k r)
   unfolding inHoldingService
@@ -131,8 +131,8 @@ module _ (c : Consist) (k : Brake) (r : Reading) (s : Ready c k) (nominal : r .n
       let t = balanced c k ApplyingEmergency e (s .brake) in
       let fallen = fallInEmergency k r in
       let falling : Sound c (withState fallen ApplyingEmergency) = omega arith in
-      let held : Sound c (withState fallen HoldingEmergency) = omega arith in
-      either c (leb (fallen .a) (k .equalization)) _ _ held (from c fallen ApplyingEmergency e falling)
+      let holding : Sound c (withState fallen HoldingEmergency) = omega arith in
+      either c (leb (fallen .a) (k .equalization)) _ _ holding (from c fallen ApplyingEmergency e falling)
 
   in-holding-emergency : Sound c (inHoldingEmergency k r)
   unfolding inHoldingEmergency
@@ -148,8 +148,8 @@ module _ (c : Consist) (k : Brake) (r : Reading) (s : Ready c k) (nominal : r .n
 
 -- ---- the update
 
-rear-sound : (c : Consist) (k : Brake) (front : ℕ) (rear : RearPressure) → Sound c k → front ≤ mostPressure → rearMost rear → rearOf k front rear ≤ mostPressure
-unfolding rearOf
+rear-sound : (c : Consist) (k : Brake) (front : ℕ) (rear : RearPressure) → Sound c k → front ≤ mostPressure → rearMost rear → rearTaken k front rear ≤ mostPressure
+unfolding rearTaken
 rear-sound c k front (Present rear) s f h = h
 rear-sound c k front Lost s f h = go (k .sampled)
   where
@@ -157,7 +157,7 @@ rear-sound c k front Lost s f h = go (k .sampled)
     go true = s .rear
     go false = f
 
-pub updated-sound : (c : Consist) (k : Brake) (time front : ℕ) (rear : RearPressure) → Ready c k → InRange time front rear
+pub updated-sound : (c : Consist) (k : Brake) (time front : ℕ) (rear : RearPressure) → Usable c k → InRange time front rear
     → Sound c (updateOf c k time front rear)
 unfolding nominalOf readingOf updateOf
 updated-sound c k time front rear s h =

@@ -10,7 +10,7 @@ use Rattle.brake.specs.declared.State.{State}
 use Rattle.brake.specs.declared.State.the-variants.{Charged, ApplyingService, HoldingService, ApplyingEmergency, HoldingEmergency, Charging}
 use Rattle.brake.specs.declared.Brake.{Brake}
 use Rattle.brake.specs.State.{stateNumber}
-use Rattle.brake.specs.Brake.{opened, isOpened}
+use Rattle.brake.specs.Brake.{atOpening, isAtOpening}
 use Rattle.brake.specs.Sound.{mostPressure, mostTime, mostB, mostFall, Balance, isBalanced, Sound, isSound}
 use Rattle.brake.proofs.Told.{brake-one}
 
@@ -55,14 +55,14 @@ sound-is c k =
 
 -- ---- the brake of an opening
 
-pub opened-passes : (c : Consist) → isOpened c (opened c) ≡ true
-unfolding isOpened
-opened-passes c = rw (eq-eqb (c .set) (c .set) refl)
+pub at-opening-passes : (c : Consist) → isAtOpening c (atOpening c) ≡ true
+unfolding isAtOpening
+at-opening-passes c = rw (eq-eqb (c .set) (c .set) refl)
 
 -- of a session that has taken no sample
-pub is-opened : (c : Consist) (k : Brake) → isOpened c k ≡ true → k .sampled ≡ false → k ≡ opened c
-unfolding isOpened
-is-opened c k h sampled =
+pub is-at-opening : (c : Consist) (k : Brake) → isAtOpening c k ≡ true → k .sampled ≡ false → k ≡ atOpening c
+unfolding isAtOpening
+is-at-opening c k h sampled =
     let all =
     same (stateNumber (k .state)) 0
     ⊗ same (k .hold) (c .set)
@@ -74,4 +74,4 @@ is-opened c k h sampled =
     ⊗ same (k .«last_rear») 0
     ⊗ same (k .«last_time») 0 in
     let ((((((((state, hold), a), b), equalization), fall), front), rear), time) = all .0 h in
-    brake-one k (opened c) (rw (state, hold, a, b, equalization, fall, front, rear, time, sampled))
+    brake-one k (atOpening c) (rw (state, hold, a, b, equalization, fall, front, rear, time, sampled))

@@ -2,28 +2,20 @@
 use mathlib.Core.Path.{_≡_, refl, sym, ap, ap₂, _∙_}
 use mathlib.Core.Bool.{Bool}
 use mathlib.Core.List.{List}
-use Prim.Native.Nat.{ℕ, zero, suc}
+use Prim.Native.Nat.{ℕ}
 use lib.Dec.{eqb}
 use lib.ListN.{getD}
 use Rattle.bits.proofs.Bit.{of-bit}
 use Rattle.brake.specs.declared.State.{State}
 use Rattle.brake.specs.declared.State.the-variants.{Charged, ApplyingService, HoldingService, ApplyingEmergency, HoldingEmergency, Charging}
 use Rattle.brake.specs.declared.Brake.{Brake}
-use Rattle.brake.specs.State.{stateNumber}
+use Rattle.brake.specs.State.{stateNumber, stateOf}
 use Rattle.brake.specs.Brake.{brakeTold}
 
 -- ---- the state
 
-stateAt : ℕ → State
-stateAt zero = Charged
-stateAt (suc zero) = ApplyingService
-stateAt (suc (suc zero)) = HoldingService
-stateAt (suc (suc (suc zero))) = ApplyingEmergency
-stateAt (suc (suc (suc (suc zero)))) = HoldingEmergency
-stateAt (suc (suc (suc (suc (suc n))))) = Charging
-
-state-back : (s : State) → stateAt (stateNumber s) ≡ s
-unfolding stateAt
+-- a state is that of its number
+pub state-back : (s : State) → stateOf (stateNumber s) ≡ s
 state-back Charged = refl
 state-back ApplyingService = refl
 state-back HoldingService = refl
@@ -32,12 +24,12 @@ state-back HoldingEmergency = refl
 state-back Charging = refl
 
 pub state-one : (s t : State) → stateNumber s ≡ stateNumber t → s ≡ t
-state-one s t h = sym (state-back s) ∙ ap stateAt h ∙ state-back t
+state-one s t h = sym (state-back s) ∙ ap stateOf h ∙ state-back t
 
 -- ---- the brake
 
-abbrev held : State → List ℕ → Bool → Brake
-held state ns sampled = record {
+abbrev brakeWith : State → List ℕ → Bool → Brake
+brakeWith state ns sampled = record {
   state = state;
   hold = getD ns 1 0;
   a = getD ns 2 0;
@@ -51,11 +43,11 @@ held state ns sampled = record {
 }
 
 brakeAt : List ℕ → Brake
-brakeAt ns = held (stateAt (getD ns 0 0)) ns (eqb (getD ns 9 0) 1)
+brakeAt ns = brakeWith (stateOf (getD ns 0 0)) ns (eqb (getD ns 9 0) 1)
 
 brake-back : (k : Brake) → brakeAt (brakeTold k) ≡ k
 unfolding brakeAt
-brake-back k = ap₂ (λ (s : State) (b : Bool). held s (brakeTold k) b) (state-back (k .state)) (of-bit (k .sampled))
+brake-back k = ap₂ (λ (s : State) (b : Bool). brakeWith s (brakeTold k) b) (state-back (k .state)) (of-bit (k .sampled))
 
 pub brake-one : (j k : Brake) → brakeTold j ≡ brakeTold k → j ≡ k
 brake-one j k h = sym (brake-back j) ∙ ap brakeAt h ∙ brake-back k

@@ -3,8 +3,10 @@
 use mathlib.Core.Path.{_≡_, sym, _∙_}
 use contract.Lifetimes.{Lfts}
 use Rattle.brake.proofs.state_number.Reads as state-number
-use Rattle.brake.proofs.Brake.opened.Reads as opened
-use Rattle.brake.proofs.Brake.is_opened.Reads as is-opened
+use Rattle.brake.proofs.state_of.Reads as state-of
+use Rattle.brake.proofs.equalization_service.Reads as equalization-service
+use Rattle.brake.proofs.Brake.at_opening.Reads as at-opening
+use Rattle.brake.proofs.Brake.is_at_opening.Reads as is-at-opening
 use Rattle.brake.proofs.Brake.updated.Reads as updated
 use Rattle.brake.proofs.Brake.is_sound.Reads as is-sound
 
@@ -12,11 +14,17 @@ module _ (κs : Lfts 0) where
   pub state-number-one : (a r₁ r₂ x₁ x₂ : _) → state-number.Post κs a r₁ x₁ → state-number.Post κs a r₂ x₂ → r₁ ≡ r₂
   state-number-one a r₁ r₂ x₁ x₂ p q = p ∙ sym q
 
-  pub opened-one : (a r₁ r₂ x₁ x₂ : _) → opened.Post κs a r₁ x₁ → opened.Post κs a r₂ x₂ → r₁ ≡ r₂
-  opened-one a r₁ r₂ x₁ x₂ p q = p ∙ sym q
+  pub state-of-one : (a r₁ r₂ x₁ x₂ : _) → state-of.Post κs a r₁ x₁ → state-of.Post κs a r₂ x₂ → r₁ ≡ r₂
+  state-of-one a r₁ r₂ x₁ x₂ p q = p ∙ sym q
 
-  pub is-opened-one : (a r₁ r₂ x₁ x₂ : _) → is-opened.Post κs a r₁ x₁ → is-opened.Post κs a r₂ x₂ → r₁ ≡ r₂
-  is-opened-one a r₁ r₂ x₁ x₂ p q = p ∙ sym q
+  pub equalization-service-one : (a r₁ r₂ x₁ x₂ : _) → equalization-service.Post κs a r₁ x₁ → equalization-service.Post κs a r₂ x₂ → r₁ ≡ r₂
+  equalization-service-one a r₁ r₂ x₁ x₂ p q = p ∙ sym q
+
+  pub at-opening-one : (a r₁ r₂ x₁ x₂ : _) → at-opening.Post κs a r₁ x₁ → at-opening.Post κs a r₂ x₂ → r₁ ≡ r₂
+  at-opening-one a r₁ r₂ x₁ x₂ p q = p ∙ sym q
+
+  pub is-at-opening-one : (a r₁ r₂ x₁ x₂ : _) → is-at-opening.Post κs a r₁ x₁ → is-at-opening.Post κs a r₂ x₂ → r₁ ≡ r₂
+  is-at-opening-one a r₁ r₂ x₁ x₂ p q = p ∙ sym q
 
   pub updated-one : (a r₁ r₂ x₁ x₂ : _) → updated.Post κs a r₁ x₁ → updated.Post κs a r₂ x₂ → r₁ ≡ r₂
   updated-one a r₁ r₂ x₁ x₂ p q = p ∙ sym q

@@ -27,8 +27,8 @@ brakeTold k =
     ∷ []
 
 -- "Opening gives state 0, hold = A = set, B = 0, fall 0, equalization 0."
-abbrev pub opened : Consist → Brake
-opened c = record {
+abbrev pub atOpening : Consist → Brake
+atOpening c = record {
   state = Charged;
   hold = c .set;
   a = c .set;
@@ -42,8 +42,8 @@ opened c = record {
 }
 
 -- what is held is what an opening gives, whether or not a sample was accepted
-unfoldable pub isOpened : Consist → Brake → Bool
-isOpened c k =
+unfoldable pub isAtOpening : Consist → Brake → Bool
+isAtOpening c k =
     eqb (stateNumber (k .state)) 0
     && eqb (k .hold) (c .set)
     && eqb (k .a) (c .set)

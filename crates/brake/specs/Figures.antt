@@ -1,4 +1,4 @@
--- The figures of document 01 for the air brakes, and worked cases of its rules, as one statement. Its proof is `figures` of proofs/Figures.antt.
+-- Worked cases of the rules, as one statement. Its proof is `figures` of proofs/Figures.antt.
 use mathlib.Core.Path.{_≡_}
 use mathlib.Core.Bool.{true}
 use Prim.Native.Nat.{ℕ}
@@ -7,9 +7,9 @@ use Rattle.sample.specs.declared.RearPressure.the-variants.{Present, Lost}
 use Rattle.brake.specs.declared.State.{State}
 use Rattle.brake.specs.declared.State.the-variants.{Charged, ApplyingService, HoldingService, ApplyingEmergency, HoldingEmergency, Charging}
 use Rattle.brake.specs.declared.Brake.{Brake}
-use Rattle.brake.specs.Brake.{opened}
+use Rattle.brake.specs.Brake.{atOpening}
 use Rattle.brake.specs.Readings.{nominalOf}
-use Rattle.brake.specs.Rules.{equalizationService, equalizationEmergency, combined, fallService, updateOf}
+use Rattle.brake.specs.Rules.{updateOf}
 
 -- a brake that has had a sample
 abbrev pub brake : State → ℕ → ℕ → ℕ → ℕ → ℕ → ℕ → ℕ → ℕ → Brake
@@ -27,21 +27,14 @@ brake state hold a b equalization fall front rear time = record {
 }
 
 pub record Figures : Type 0 where
-  -- "Equalization, A 9,000, B 0: 6,428."
-  pub equalization : equalizationService 9000 0 ≡ 6428
-  -- "Emergency, A 7,000, B 5,000, nominal 9,000: 7,714, then A 8,166."
-  pub emergency : equalizationEmergency 7000 5000 9000 ≡ 7714
-  pub then-A : combined 7000 9000 ≡ 8166
-  -- "Set 9,000, time 30,000: fall 85."
-  pub fall : fallService train ≡ 85
   -- the half down; a rear above front; not below 0
   pub half-down : nominalOf 9000 8000 7999 ≡ 9000
   pub rear-higher : nominalOf 9000 8000 8500 ≡ 9000
   pub not-below : nominalOf 7000 16000 0 ≡ 0
   -- a first sample has rate 0 and a lost rear is front; more than 300 under set is service, and hold stays
-  pub first-sample : updateOf train (opened train) 0 6999 Lost ≡ brake ApplyingService 9000 9000 0 6428 85 6999 6999 0
+  pub first-sample : updateOf train (atOpening train) 0 6999 Lost ≡ brake ApplyingService 9000 9000 0 6428 85 6999 6999 0
   -- exactly 300 under is no application
-  pub not-yet : updateOf train (opened train) 0 8700 (Present 8650) ≡ brake Charged 9000 9000 0 0 0 8700 8650 0
+  pub not-yet : updateOf train (atOpening train) 0 8700 (Present 8650) ≡ brake Charged 9000 9000 0 0 0 8700 8650 0
   -- a fall of 2,999 in 2 seconds is an emergency: its rate is -1,500
   pub rate-down : updateOf train (brake Charged 9000 7000 5000 0 0 9000 9000 10) 12 6001 (Present 6001) ≡ brake ApplyingEmergency 9000 8166 5000 7714 46 6001 6001 12
   -- a fall of 401 in 4 seconds is an application: its rate is -101

@@ -20,9 +20,9 @@ unfoldable pub rateOf : Brake → ℕ → ℕ → ℤ
 rateOf k time front = cond (k .sampled) (floorDiv (pos front -ℤ pos (k .«last_front»)) (pos (elapsedOf k time))) (pos 0)
 
 -- "A lost rear counts as the last rear, or as front in the first sample"
-unfoldable pub rearOf : Brake → ℕ → RearPressure → ℕ
-rearOf k front (Present rear) = rear
-rearOf k front Lost = cond (k .sampled) (k .«last_rear») front
+unfoldable pub rearTaken : Brake → ℕ → RearPressure → ℕ
+rearTaken k front (Present rear) = rear
+rearTaken k front Lost = cond (k .sampled) (k .«last_rear») front
 
 -- "Nominal = set minus half of (front minus rear), the half down; the difference is 0 where rear is higher, and nominal is not below 0":
 -- a difference of natural numbers is 0 where it would be below 0
@@ -35,8 +35,8 @@ readingOf c k time front rear = record {
   elapsed = elapsedOf k time;
   rate = rateOf k time front;
   front = front;
-  rear = rearOf k front rear;
-  nominal = nominalOf (c .set) front (rearOf k front rear);
+  rear = rearTaken k front rear;
+  nominal = nominalOf (c .set) front (rearTaken k front rear);
 }
 
 -- "Application means rate below -100 or hold minus front above 300."

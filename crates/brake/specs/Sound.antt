@@ -1,6 +1,6 @@
 -- The invariant of a brake, as facts and as a test. Definitions only.
 use mathlib.Core.Path.{_≡_}
-use Prim.Native.Nat.{ℕ, _+_, _*_, _≤_}
+use Prim.Native.Nat.{ℕ, _+_, _-_, _*_, _^_, _≤_}
 use mathlib.Core.Bool.{Bool, _&&_}
 use lib.Dec.{leb, eqb}
 use Rattle.consist.specs.declared.Consist.{Consist}
@@ -11,7 +11,7 @@ use Rattle.brake.specs.declared.State.{State}
 use Rattle.brake.specs.declared.State.the-variants.{Charged, ApplyingService, HoldingService, ApplyingEmergency, HoldingEmergency, Charging}
 use Rattle.brake.specs.declared.Brake.{Brake}
 
--- ---- the greatest of what is held
+-- ---- the greatest values
 
 -- a pressure of 160 psi
 abbrev pub mostPressure : ℕ
@@ -19,7 +19,7 @@ mostPressure = 16000
 
 -- 24 bits of seconds
 abbrev pub mostTime : ℕ
-mostTime = 16777215
+mostTime = 2 ^ 24 - 1
 
 -- B at equalization in an emergency from the highest set pressure: 6/7 of 11,000, and 6 of rounding
 abbrev pub mostB : ℕ
@@ -76,7 +76,7 @@ isSound c k =
 
 -- ---- what an update requires, and of what readings it keeps the invariant
 
-pub record Ready (c : Consist) (k : Brake) : Type 0 where
+pub record Usable (c : Consist) (k : Brake) : Type 0 where
   pub consist : consist.Sound c
   pub brake : Sound c k
 

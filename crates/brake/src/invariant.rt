@@ -27,7 +27,8 @@ fn is_balanced(state: State, set: u16, a: u16, b: u16, equalization: u16) -> boo
 impl Brake {
     const MOST_PRESSURE: u16 = 16_000;
 
-    const MOST_TIME: u32 = 16_777_215;
+    // 24 bits of seconds.
+    const MOST_TIME: u32 = 0xff_ffff;
 
     const MOST_B: u16 = 9_434;
 

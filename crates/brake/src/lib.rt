@@ -1,6 +1,5 @@
 // The air brakes, once a sample.
 mod invariant;
-mod numbers;
 mod readings;
 mod rules;
 mod states;
@@ -8,10 +7,10 @@ mod states;
 use consist::Consist;
 use sample::RearPressure;
 ghost use mathlib.Core.Path.{_≡_};
-ghost use Rattle.brake.specs.State.{stateNumber};
-ghost use Rattle.brake.specs.Brake.{opened, isOpened};
-ghost use Rattle.brake.specs.Rules.{updateOf};
-ghost use Rattle.brake.specs.Sound.{Ready};
+ghost use Rattle.brake.specs.State.{stateNumber, stateOf};
+ghost use Rattle.brake.specs.Brake.{atOpening, isAtOpening};
+ghost use Rattle.brake.specs.Rules.{equalizationService, updateOf};
+ghost use Rattle.brake.specs.Sound.{Usable};
 
 pub enum State {
     Charged,
@@ -67,12 +66,33 @@ pub fn state_number(s: State) -> u8
     }
 }
 
+// The state of a number: past 4, charging.
+pub fn state_of(n: u64) -> State
+    ensures { λ s. ⌜ s ≡ stateOf n ⌝ }
+{
+    match n {
+        0 => State::Charged,
+        1 => State::ApplyingService,
+        2 => State::HoldingService,
+        3 => State::ApplyingEmergency,
+        4 => State::HoldingEmergency,
+        _ => State::Charging,
+    }
+}
+
+// Where a service application from A and B ends.
+pub fn equalization_service(a: u16, b: u16) -> u16
+    ensures { λ r. ⌜ r ≡ equalizationService a b ⌝ }
+{
+    ((5 * a as u32 + 2 * b as u32) / 7) as u16
+}
+
 impl Brake {
     // Application: a rate below this,
     pub const APPLICATION_RATE: i64 = -100;
 
     // or hold above front by more than this.
-    pub const APPLICATION_DROP: u16 = 300;
+    pub const APPLICATION_DROP: u64 = 300;
 
     // Release: a rate above this.
     pub const RELEASE_RATE: i64 = 100;
@@ -81,8 +101,8 @@ impl Brake {
     pub const EMERGENCY_RATE: i64 = -1_500;
 
     // The brake of a new session.
-    pub fn opened(c: Consist) -> Self
-        ensures { λ r. ⌜ r ≡ opened c ⌝ }
+    pub fn at_opening(c: Consist) -> Self
+        ensures { λ r. ⌜ r ≡ atOpening c ⌝ }
     {
         Self {
             state: State::Charged,
@@ -99,8 +119,8 @@ impl Brake {
     }
 
     // Whether what is held is what an opening gives, whether or not a sample was accepted.
-    pub fn is_opened(self, c: Consist) -> bool
-        ensures { λ t. ⌜ t ≡ isOpened c self ⌝ }
+    pub fn is_at_opening(self, c: Consist) -> bool
+        ensures { λ t. ⌜ t ≡ isAtOpening c self ⌝ }
     {
         let state = self.state;
         (state_number(state) == 0)
@@ -116,7 +136,7 @@ impl Brake {
 
     // The brake after one accepted sample, of which no rule reads more than these.
     pub fn updated(self, c: Consist, time: u32, front: u16, rear: RearPressure) -> Self
-        requires { ⌜ Ready c self ⌝ }
+        requires { ⌜ Usable c self ⌝ }
         ensures { λ k. ⌜ k ≡ updateOf c self time front rear ⌝ }
     {
         let r = self.reading(c, time, front, rear);

@@ -1,16 +1,15 @@
 // What a sample brings, counted from the one before.
 use crate::Brake;
 use crate::Reading;
-use crate::numbers::above;
 use consist::Consist;
 use sample::RearPressure;
 ghost use mathlib.Core.Path.{_≡_};
-ghost use Rattle.brake.specs.Readings.{elapsedOf, rateOf, rearOf, nominalOf, readingOf, application, release, emergency};
+ghost use Rattle.brake.specs.Readings.{elapsedOf, rateOf, rearTaken, nominalOf, readingOf, application, release, emergency};
 
 fn nominal(set: u16, front: u16, rear: u16) -> u16
     ensures { λ r. ⌜ r ≡ nominalOf set front rear ⌝ }
 {
-    above(set, above(front, rear) / 2)
+    whole::above(set as u64, whole::above(front as u64, rear as u64) / 2) as u16
 }
 
 impl Brake {
@@ -34,7 +33,7 @@ impl Brake {
     }
 
     fn rear(self, front: u16, rear: RearPressure) -> u16
-        ensures { λ r. ⌜ r ≡ rearOf self front rear ⌝ }
+        ensures { λ r. ⌜ r ≡ rearTaken self front rear ⌝ }
     {
         match rear {
             RearPressure::Present(pressure) => pressure,
@@ -58,7 +57,8 @@ impl Brake {
     pub(crate) fn is_application(self, r: Reading) -> bool
         ensures { λ t. ⌜ t ≡ application self r ⌝ }
     {
-        (r.rate < Brake::APPLICATION_RATE) | (Brake::APPLICATION_DROP < above(self.hold, r.front))
+        (r.rate < Brake::APPLICATION_RATE)
+            | (Brake::APPLICATION_DROP < whole::above(self.hold as u64, r.front as u64))
     }
 }
 

@@ -2,17 +2,28 @@
 use crate::Brake;
 use crate::Reading;
 use crate::State;
-use crate::numbers::above;
-use crate::numbers::greater;
-use crate::numbers::lesser;
-use crate::numbers::over;
+use crate::equalization_service;
 use consist::Consist;
 ghost use mathlib.Core.Path.{_≡_};
-ghost use Prim.Native.Nat.{_+_, _≤_};
+ghost use Prim.Native.Nat.{_+_, _*_, _^_, _≤_, _<_, max};
 ghost use Rattle.consist.specs.Sound as consist;
 ghost use Rattle.brake.specs.Brake.{withState};
-ghost use Rattle.brake.specs.Rules.{equalizationEmergency, combined, fallEmergency, equalizationService, fallService, startEmergency, startService, startApplying, startCharging, dropOf, fallBy, fallInService, fallInEmergency};
-ghost use Rattle.brake.specs.Sound.{mostB, Ready};
+ghost use Rattle.brake.specs.Rules.{equalizationEmergency, combined, fallEmergency, fallService, startEmergency, startService, startApplying, startCharging, dropOf, fallBy, fallInService, fallInEmergency};
+ghost use Rattle.brake.specs.Sound.{mostB, Usable};
+
+// The greater of two pressures.
+pub(crate) fn higher(a: u16, b: u16) -> u16
+    ensures { λ r. ⌜ r ≡ max a b ⌝ }
+{
+    whole::greater(a as u64, b as u64) as u16
+}
+
+// A change per second, over some seconds.
+pub(crate) fn over(change: u16, seconds: u32) -> u64
+    ensures { λ r. ⌜ (r ≡ change * seconds) × (r < 2 ^ 48) ⌝ }
+{
+    change as u64 * seconds as u64
+}
 
 fn equalization_emergency(a: u16, b: u16, nominal: u16) -> u16
     ensures { λ r. ⌜ r ≡ equalizationEmergency a b nominal ⌝ }
@@ -30,13 +41,7 @@ fn combined(a: u16, nominal: u16) -> u16
 fn fall_emergency(a: u16, equalization: u16) -> u16
     ensures { λ r. ⌜ r ≡ fallEmergency a equalization ⌝ }
 {
-    whole::ceil_div(above(a, equalization) as u64, 10) as u16
-}
-
-fn equalization_service(a: u16, b: u16) -> u16
-    ensures { λ r. ⌜ r ≡ equalizationService a b ⌝ }
-{
-    ((5 * a as u32 + 2 * b as u32) / 7) as u16
+    whole::ceil_div(whole::above(a as u64, equalization as u64), 10) as u16
 }
 
 fn fall_service(c: Consist) -> u16
@@ -79,7 +84,7 @@ impl Brake {
     }
 
     fn applying_service(self, c: Consist) -> Self
-        requires { ⌜ Ready c self ⌝ }
+        requires { ⌜ Usable c self ⌝ }
         ensures { λ k. ⌜ k ≡ startService c self ⌝ }
     {
         let mut next = self.in_state(State::ApplyingService);
@@ -90,7 +95,7 @@ impl Brake {
 
     // Start applying. A itself first falls at the next sample.
     pub(crate) fn applying(self, c: Consist, r: Reading) -> Self
-        requires { ⌜ Ready c self ⌝ }
+        requires { ⌜ Usable c self ⌝ }
         ensures { λ k. ⌜ k ≡ startApplying c self r ⌝ }
     {
         if r.is_emergency() {
@@ -114,7 +119,10 @@ impl Brake {
     fn drop(self, level: u16, elapsed: u32) -> u16
         ensures { λ r. ⌜ r ≡ dropOf self level elapsed ⌝ }
     {
-        lesser(above(self.a, level), over(self.fall, elapsed))
+        whole::lesser(
+            whole::above(self.a as u64, level as u64),
+            over(self.fall, elapsed),
+        ) as u16
     }
 
     // A falls by the drop, and B gains.
@@ -131,7 +139,7 @@ impl Brake {
         requires { ⌜ fallInService self r .b ≤ mostB ⌝ }
         ensures { λ k. ⌜ k ≡ fallInService self r ⌝ }
     {
-        let drop = self.drop(greater(self.equalization, r.front), r.elapsed);
+        let drop = self.drop(higher(self.equalization, r.front), r.elapsed);
         self.fallen(drop, 5 * drop as u32 / 2)
     }
 

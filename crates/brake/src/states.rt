@@ -2,24 +2,23 @@
 use crate::Brake;
 use crate::Reading;
 use crate::State;
-use crate::numbers::greater;
-use crate::numbers::lesser;
-use crate::numbers::over;
+use crate::rules::higher;
+use crate::rules::over;
 use consist::Consist;
 ghost use mathlib.Core.Path.{_≡_};
 ghost use Prim.Native.Nat.{_≤_};
 ghost use Rattle.brake.specs.Rules.{fallInService, fallInEmergency, inCharged, recharged, inCharging, fallOrHold, inApplyingService, inHoldingService, inApplyingEmergency, inHoldingEmergency, ruleOf};
-ghost use Rattle.brake.specs.Sound.{mostB, Ready};
+ghost use Rattle.brake.specs.Sound.{mostB, Usable};
 
 impl Brake {
     fn in_charged(mut self, c: Consist, r: Reading) -> Self
-        requires { ⌜ Ready c self ⌝ }
+        requires { ⌜ Usable c self ⌝ }
         ensures { λ k. ⌜ k ≡ inCharged c self r ⌝ }
     {
         if self.is_application(r) {
             return self.applying(c, r);
         }
-        self.hold = greater(self.hold, r.front);
+        self.hold = higher(self.hold, r.front);
         self
     }
 
@@ -30,18 +29,19 @@ impl Brake {
         if r.nominal <= self.a {
             return self.in_state(State::Charged);
         }
-        self.a = lesser(r.nominal, self.a as u64 + over(c.recharge, r.elapsed));
+        let gained = self.a as u64 + over(c.recharge, r.elapsed);
+        self.a = whole::lesser(r.nominal as u64, gained) as u16;
         self
     }
 
     fn in_charging(mut self, c: Consist, r: Reading) -> Self
-        requires { ⌜ Ready c self ⌝ }
+        requires { ⌜ Usable c self ⌝ }
         ensures { λ k. ⌜ k ≡ inCharging c self r ⌝ }
     {
         if self.is_application(r) {
             return self.applying(c, r);
         }
-        self.hold = greater(self.hold, r.front);
+        self.hold = higher(self.hold, r.front);
         self.recharged(c, r)
     }
 
@@ -50,7 +50,7 @@ impl Brake {
         ensures { λ k. ⌜ k ≡ fallOrHold self r ⌝ }
     {
         let fallen = self.fallen_in_service(r);
-        if greater(self.equalization, r.front) < fallen.a {
+        if higher(self.equalization, r.front) < fallen.a {
             return fallen;
         }
         let mut next = fallen.in_state(State::HoldingService);
@@ -60,7 +60,7 @@ impl Brake {
 
     // A plain application is no new start.
     fn in_applying_service(self, c: Consist, r: Reading) -> Self
-        requires { ⌜ Ready c self ⌝ }
+        requires { ⌜ Usable c self ⌝ }
         requires { ⌜ fallInService self r .b ≤ mostB ⌝ }
         ensures { λ k. ⌜ k ≡ inApplyingService c self r ⌝ }
     {
@@ -74,7 +74,7 @@ impl Brake {
     }
 
     fn in_holding_service(self, c: Consist, r: Reading) -> Self
-        requires { ⌜ Ready c self ⌝ }
+        requires { ⌜ Usable c self ⌝ }
         ensures { λ k. ⌜ k ≡ inHoldingService c self r ⌝ }
     {
         if r.is_release() {
@@ -110,7 +110,7 @@ impl Brake {
 
     // The rule of the brake's state.
     pub(crate) fn ruled(self, c: Consist, r: Reading) -> Self
-        requires { ⌜ Ready c self ⌝ }
+        requires { ⌜ Usable c self ⌝ }
         ensures { λ k. ⌜ k ≡ ruleOf (self .state) c self r ⌝ }
     {
         let state = self.state;

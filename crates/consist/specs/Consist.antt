@@ -60,8 +60,11 @@ abbrev pub outOfRange : Consist → Bool
 outOfRange c = not (inRange c)
 
 -- 5: weight under 10 tons a car
+abbrev pub tonsACar : ℕ
+tonsACar = 10
+
 unfoldable pub tooLight : Consist → Bool
-tooLight c = ltb (c .weight) (10 * c .cars)
+tooLight c = ltb (c .weight) (tonsACar * c .cars)
 
 -- neither
 unfoldable pub isSound : Consist → Bool

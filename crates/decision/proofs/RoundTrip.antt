@@ -15,7 +15,7 @@ use Rattle.refusal.specs.declared.Verdict.the-variants.{Accepted}
 use Rattle.refusal.proofs.Order.{accepted, last-passed}
 use Rattle.record.proofs.RoundTrip.{written-back, accepted-back}
 use Rattle.decision.specs.declared.Decision.{Decision}
-use Rattle.decision.specs.Decision.{mark, widths, fieldsOf, ofFields, decisionIn, bytesOf, wrongMark, wrong, rules, none, answer, readDecision, writeDecision}
+use Rattle.decision.specs.Decision.{size, mark, widths, fieldsOf, ofFields, decisionIn, bytesOf, wrongMark, wrong, rules, none, answer, readDecision, writeDecision}
 use Rattle.decision.specs.RoundTrip.{WrittenReadsBack, AcceptedWritesBack}
 use Rattle.decision.proofs.Answers.{fits}
 
@@ -41,11 +41,11 @@ to-fields n h =
 pub written-reads-back : WrittenReadsBack
 unfolding WrittenReadsBack bytesOf decisionIn readDecision writeDecision
 written-reads-back d out h =
-    let w = written-back 8 widths fieldsOf ofFields wrong rules refl sound-fits of-fields its-mark to-fields d out h in
+    let w = written-back size widths fieldsOf ofFields wrong rules refl sound-fits of-fields its-mark to-fields d out h in
     ap₂ answer (w .0) (w .1)
 
 pub accepted-writes-back : AcceptedWritesBack
 unfolding AcceptedWritesBack bytesOf decisionIn readDecision writeDecision
 accepted-writes-back s out b room h =
     ap (λ (v : Verdict). writeDecision (kept v (decisionIn s) none) out) h
-    ∙ accepted-back 8 widths fieldsOf ofFields wrong rules refl sound-fits of-fields its-mark to-fields s out b room h
+    ∙ accepted-back size widths fieldsOf ofFields wrong rules refl sound-fits of-fields its-mark to-fields s out b room h

@@ -6,6 +6,7 @@ use lib.ListN.{getD}
 use lib.Dec.{leb, ltb, eqb}
 use Rattle.bits.specs.Fields.{bit}
 use Rattle.bits.specs.Bytes.{fieldsIn, bytesFrom}
+use Rattle.record.specs.Location.{farthest, noStop}
 use Rattle.record.specs.Record.{wrongLength}
 use Rattle.refusal.specs.Lowest.{Rule, lowest}
 use Rattle.refusal.specs.Written.{noRoom, written}
@@ -23,14 +24,6 @@ size = 8
 -- "mark 8 (0x44)"
 abbrev pub mark : ℕ
 mark = 0x44
-
--- the greatest location
-abbrev pub farthest : ℕ
-farthest = 4000000
-
--- "16,777,215 for no stop"
-abbrev pub noStop : ℕ
-noStop = 16777215
 
 -- mark, time, brake state, penalty, cause, stopping location
 abbrev pub fieldsOf : Decision → List ℕ

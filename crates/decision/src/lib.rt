@@ -24,10 +24,6 @@ impl Decision {
     pub const SIZE: usize = 8;
 
     pub const MARK: u64 = 0x44;
-    // The greatest location.
-    pub const FARTHEST: u32 = 4_000_000;
-    // The stopping location of a train that does not stop.
-    pub const NO_STOP: u32 = 16_777_215;
 }
 
 // What reading a decision answers; where it is refused, the decision is all zero.
@@ -71,7 +67,7 @@ fn out_of_range(d: Decision) -> bool
         | (d.state > 5)
         | (d.cause > 8)
         | (d.penalty != (d.cause != 0))
-        | !((d.stop <= Decision::FARTHEST) | (d.stop == Decision::NO_STOP))
+        | !((d.stop <= record::FARTHEST) | (d.stop == record::NO_STOP))
 }
 
 pub fn read(s: &[u8]) -> Answer

@@ -1,69 +1,34 @@
--- Demand 1: each call's answer is its definition, of which its layer shows when it refuses. Assumes nothing.
-use mathlib.Core.Path.{_≡_, refl, sym, ap, ap₂, subst, _∙_}
+-- Demand 1: each definition's verdict is the lowest of its rules. Assumes nothing.
+use mathlib.Core.Path.{_≡_, refl, sym, ap, subst, _∙_}
 use mathlib.Core.Bool.{Bool, true, false, _||_}
 use mathlib.Core.List.{List, [], _∷_, map}
 use mathlib.Core.Logic.{_↔_, ⊎-elim}
 use Prim.Native.Nat.{ℕ}
 use lib.Dec.{eqb}
 use borrow.Author.Tests.{eq-eqb}
-use denote.Ref.{now}
 use Rattle.refusal.specs.declared.Refusal.{Refusal}
 use Rattle.refusal.specs.declared.Refusal.the-variants.{NoSession, WrongLength, WrongMark, OutOfRange, TooLight, BrokenProfile, BrokenTargets, BadReading, WrongTime, NotCovered, TooFast, NoRoom}
 use Rattle.refusal.specs.declared.Verdict.{Verdict}
 use Rattle.refusal.specs.declared.Verdict.the-variants.{Refused}
-use Rattle.refusal.specs.Number.{numberOf}
-use Rattle.refusal.specs.Lowest.{Rule}
-use Rattle.refusal.specs.Exactly.{Applies, Lowest, WrittenExactly, ReadExactly}
-use Rattle.refusal.proofs.Exactly.{number-tells}
-use Rattle.refusal.proofs.Numbers.{told-one}
-use Rattle.refusal.proofs.unless.Met as refusal-unless
-use Rattle.refusal.proofs.number.Met as refusal-number
-use Rattle.refusal.proofs.verdict_number.Met as refusal-verdict-number
-use Rattle.consist.specs.Exactly as consist-specs
-use Rattle.consist.proofs.Exactly as consist
-use Rattle.consist.specs.Consist.{readRules}
-use Rattle.consist.proofs.read.Met as consist-read
-use Rattle.consist.proofs.is_sound.Met as consist-is-sound
-use Rattle.consist.proofs.write.Met as consist-write
-use Rattle.profile.specs.Exactly as profile-specs
-use Rattle.profile.proofs.Exactly as profile
-use Rattle.profile.proofs.judge.Met as profile-judge
-use Rattle.profile.proofs.segment_at.Met as profile-segment-at
-use Rattle.profile.proofs.write.Met as profile-write
-use Rattle.targets.specs.Exactly as targets-specs
-use Rattle.targets.proofs.Exactly as targets
-use Rattle.targets.proofs.judge.Met as targets-judge
-use Rattle.targets.proofs.target_at.Met as targets-target-at
-use Rattle.targets.proofs.write.Met as targets-write
-use Rattle.sample.specs.Exactly as sample-specs
-use Rattle.sample.proofs.Exactly as sample
-use Rattle.sample.proofs.Told as sample-told
-use Rattle.sample.proofs.lay_out.Met as sample-lay-out
-use Rattle.sample.proofs.judge.Met as sample-judge
-use Rattle.sample.proofs.read.Met as sample-read
-use Rattle.sample.proofs.write.Met as sample-write
-use Rattle.decision.specs.Exactly as decision-specs
-use Rattle.decision.proofs.Exactly as decision
-use Rattle.decision.proofs.read.Met as decision-read
-use Rattle.decision.proofs.write.Met as decision-write
-use Rattle.session.specs.declared.Session.{Session}
-use Rattle.session.specs.declared.Answer.{Answer}
+use Rattle.refusal.specs.Number.{numberOf, numberOfVerdict, told}
+use Rattle.refusal.specs.Lowest.{Rule, lowest}
+use Rattle.refusal.specs.Steps.{kept}
+use Rattle.refusal.specs.Written.{written}
+use Rattle.refusal.specs.Exactly.{Exactly, Applies, Lowest}
+use Rattle.refusal.proofs.Exactly.{exactly, number-tells, written-verdict}
+use Rattle.refusal.proofs.Numbers.{verdict-refused, verdict-accepted}
+use Rattle.table.specs.Table as table
+use Rattle.consist.specs.Consist.{readConsist, writeConsist}
+use Rattle.sample.specs.Sample.{layOut, judgeSample, readSample, writeSample}
+use Rattle.decision.specs.Decision.{readDecision, writeDecision}
 use Rattle.session.specs.Open.{openOf}
-use Rattle.session.specs.Sample.{rules, sampleCall}
-use Rattle.session.specs.Laws.{OpenExact, SampleExact}
-use Rattle.session.specs.Laws as session-specs
-use Rattle.session.proofs.Laws as session
-use Rattle.session.proofs.Told as session-told
-use Rattle.session.proofs.none.Met as session-none
-use Rattle.session.proofs.is_open.Met as session-is-open
-use Rattle.session.proofs.open.Met as session-open
-use Rattle.session.proofs.sample.Met as session-sample
-use Rattle.held.specs.Exactly as held-specs
-use Rattle.held.proofs.Exactly as held
-use Rattle.held.proofs.read.Met as held-read
-use Rattle.held.proofs.write.Met as held-write
-use Rattle.demands.proofs.Told.{held-one}
-use Rattle.demands.specs.Demand1.{among, oneToTwelve, Table, PublicCall, Refuses, RefusesUnchanged, RefusesFixed, Demand-1}
+use Rattle.session.specs.Sample.{sampleCall}
+use Rattle.held.specs.Held.{readSession, writeSession}
+use Rattle.mount.specs.Mount.{sampleRules, openBytes, Sampled}
+use Rattle.mount.specs.Records.{sampleWritten, decisionRead}
+use Rattle.mount.proofs.Calls.{leaves, by-rules}
+use Rattle.demands.specs.Demand1.{among, oneToTwelve, RefusesBy, Refuses, RefusesC, Demand-1}
+use Rattle.demands.proofs.Calls.{calls}
 
 -- ---- the table
 
@@ -81,16 +46,13 @@ one-of-twelve NotCovered = refl
 one-of-twelve TooFast = refl
 one-of-twelve NoRoom = refl
 
-table : Table
-table = record { in-order = refl; no-other = one-of-twelve; apart = number-tells }
-
 -- ---- the lines of a call
 
 later : (a b : Bool) → b ≡ true → a || b ≡ true
 later true b h = refl
 later false b h = h
 
-abbrev pub linesOf : List Rule → List ℕ
+abbrev linesOf : List Rule → List ℕ
 linesOf rules = map (λ (rule : Rule). numberOf (rule .1)) rules
 
 -- a refusal that applies has its number among them
@@ -102,81 +64,69 @@ listed (rule ∷ rules) q a =
     (λ h. later (eqb (numberOf q) (numberOf (rule .1))) _ (listed rules q h))
     a
 
--- ---- an answer that is what its layer defines
+-- ---- an answer whose verdict is the lowest of the rules
 
-module _ {numbers : List ℕ} {rules : List Rule} (lines : linesOf rules ≡ numbers) where
-  pub refuses : {A : Type 0} {refused : Refusal → A} {made : A} → ((q : Refusal) → (made ≡ refused q) ↔ Lowest rules q) → {y : A} → y ≡ made → Refuses numbers rules refused y
-  refuses exact e = record {
+module _ {S : Type 0} {numbers : List ℕ} {rules : List Rule} {before : S} where
+  by : {A : Type 0} {accepted : A} {refused : Refusal → A} {answer : A × S} → linesOf rules ≡ numbers
+      → ((q : Refusal) → (answer .0 ≡ refused q) ↔ Lowest rules q) → (answer .0 ≡ accepted) ↔ ((q : Refusal) → Applies q rules → ⊥)
+      → ((q : Refusal) → answer .0 ≡ refused q → answer .1 ≡ before) → RefusesBy numbers rules before accepted refused answer
+  by lines exact none unchanged = record {
     lines = lines;
-    exactly = λ q. (λ h. exact q .0 (sym e ∙ h), λ h. e ∙ exact q .1 h);
-    numbered = λ q h. subst (λ (ns : List ℕ). among (numberOf q) ns ≡ true) lines (listed rules q (exact q .0 (sym e ∙ h) .applies));
+    exactly = exact;
+    else-accepted = none;
+    numbered = λ q h. subst (λ (ns : List ℕ). among (numberOf q) ns ≡ true) lines (listed rules q (exact q .0 h .applies));
+    unchanged = unchanged;
   }
 
-  -- of which a part is the answer and a part what was given and lent, after the call
-  pub leaves : {Y A S : Type 0} (said : Y → A) (left : Y → S) {refused : Refusal → A} {before : S} {made : Y}
-      → ((q : Refusal) → (said made ≡ refused q) ↔ Lowest rules q) → ((q : Refusal) → said made ≡ refused q → left made ≡ before)
-      → {y : Y} → y ≡ made → RefusesUnchanged numbers rules refused (said y) before (left y)
-  leaves said left exact kept e = record {
-    refuses = refuses exact (ap said e);
-    unchanged = λ q h. ap left e ∙ kept q (sym (ap said e) ∙ h);
-  }
+  refuses : (answer : Verdict × S) → linesOf rules ≡ numbers → answer .0 ≡ lowest rules → ((q : Refusal) → lowest rules ≡ Refused q → answer .1 ≡ before)
+      → Refuses numbers rules before answer
+  unfolding Exactly
+  refuses answer lines e unchanged =
+      let at = exactly rules in
+      by lines (λ q. (λ h. at .refused q .0 (sym e ∙ h), λ h. e ∙ at .refused q .1 h)) (λ h. at .accepted .0 (sym e ∙ h), λ h. e ∙ at .accepted .1 h)
+      (λ q h. unchanged q (sym e ∙ h))
 
-  reads : {C : Type 0} {none : C} {made y : Verdict × C} → ReadExactly rules none (made .0) (made .1) → y ≡ made → RefusesFixed numbers rules Refused (y .0) none (y .1)
-  reads {C} exact e = record {
-    refuses = refuses (exact .refused) (ap (λ (y : Verdict × C). y .0) e);
-    fixed = λ q h. ap (λ (y : Verdict × C). y .1) e ∙ exact .fixed q (sym (ap (λ (y : Verdict × C). y .0) e) ∙ h);
-  }
+  reads : (value : S) → linesOf rules ≡ numbers → Refuses numbers rules before (lowest rules, kept (lowest rules) value before)
+  reads value lines = refuses _ lines refl (λ q h. ap (λ (v : Verdict). kept v value before) h)
 
-  writes : {out : List ℕ} {made y : Verdict × List ℕ} → WrittenExactly rules out made → y ≡ made → RefusesUnchanged numbers rules Refused (y .0) out (y .1)
-  writes exact e = leaves (λ (y : Verdict × List ℕ). y .0) (λ (y : Verdict × List ℕ). y .1) (exact .refused) (exact .untouched) e
+  tells : (answer : Verdict × S) → Refuses numbers rules before answer → RefusesC numbers rules before (told answer)
+  tells (v, left) r =
+      by (r .lines) (λ q. (λ h. r .exactly q .0 (verdict-refused v q h), λ h. ap numberOfVerdict (r .exactly q .1 h)))
+      (λ h. r .else-accepted .0 (verdict-accepted v h), λ h. ap numberOfVerdict (r .else-accepted .1 h))
+      (λ q h. r .unchanged q (verdict-refused v q h))
 
-module _ {numbers : List ℕ} where
-  opens : {x : Session} {s : List ℕ} → linesOf (readRules s) ≡ numbers → OpenExact x s
-      → {y : Answer} → y ≡ openOf x s → RefusesUnchanged numbers (readRules s) Refused (y .verdict) x (y .session)
-  opens lines exact e = leaves lines (λ (y : Answer). y .verdict) (λ (y : Answer). y .session) (exact .refused) (exact .kept) e
-
-  samples : {x : Session} {s p t out : List ℕ} → linesOf (rules x s p t out) ≡ numbers → SampleExact x s p t out
-      → {y : Answer × List ℕ} → y ≡ sampleCall x s p t out
-      → RefusesUnchanged numbers (rules x s p t out) Refused (y .0 .verdict) {S = Session × List ℕ} (x, out) (y .0 .session, y .1)
-  samples lines exact e =
-      leaves lines {S = Session × List ℕ} (λ (y : Answer × List ℕ). y .0 .verdict) (λ (y : Answer × List ℕ). (y .0 .session, y .1)) (exact .refused)
-      (λ q h. ap₂ (λ (z : Session) (l : List ℕ). (z, l)) (exact .kept q h) (exact .untouched q h))
-      e
-
--- ---- the calls
-
--- a contract without a `requires` asks `Unit`
-pub call : {L : Type 0} {Given Answer Exit : L → Type 0} {Statement : Type 1 → Type 2} {Post Says : (l : L) → Given l → Answer l → Exit l → Type 0}
-    → ((M : Type 1) → Statement M) → ((l : L) (a : Given l) (r : Answer l) (x : Exit l) → Post l a r x → Says l a r x)
-    → PublicCall Statement (λ l a. Unit {0}) Post Says
-call met says = record { met = met; asks-nothing = λ l a. tt; says = says }
+writes : {numbers : List ℕ} {rules : List Rule} (bytes out : List ℕ) → linesOf rules ≡ numbers → Refuses numbers rules out (written (lowest rules) bytes out)
+writes {numbers} {rules} bytes out lines =
+    refuses _ lines (written-verdict (lowest rules) bytes out) (λ q h. ap (λ (v : Verdict). written v bytes out .1) h)
 
 pub demand-1 : Demand-1
-unfolding consist-specs.ReadExactly consist-specs.WriteExactly profile-specs.JudgeExactly profile-specs.WriteExactly targets-specs.JudgeExactly targets-specs.WriteExactly sample-specs.LayoutExactly sample-specs.JudgeExactly sample-specs.ReadExactly sample-specs.WriteExactly decision-specs.ReadExactly decision-specs.WriteExactly session-specs.OpenExactly session-specs.SampleExactly held-specs.ReadExactly held-specs.WriteExactly
+unfolding table.judge table.write readConsist writeConsist layOut judgeSample readSample writeSample readDecision writeDecision openOf sampleCall readSession writeSession openBytes sampleWritten decisionRead
 demand-1 = record {
-  table = table;
-  refusal-unless = call (λ M. refusal-unless.met) (λ l a r x p. p);
-  refusal-number = call (λ M. refusal-number.met) (λ l a r x p. p);
-  refusal-verdict-number = call (λ M. refusal-verdict-number.met) (λ l a r x p. p);
-  consist-read = call (λ M. consist-read.met) (λ l a r x p. reads refl (consist.read-exactly _) (told-one _ _ p));
-  consist-is-sound = call (λ M. consist-is-sound.met) (λ l a r x p. p);
-  consist-write = call (λ M. consist-write.met) (λ l a r x p. writes refl (consist.write-exactly _ _) (told-one _ _ p));
-  profile-judge = call (λ M. profile-judge.met) (λ l a r x p. reads refl (profile.judge-exactly _) (told-one _ _ p));
-  profile-segment-at = call (λ M. profile-segment-at.met) (λ l a r x p. p);
-  profile-write = call (λ M. profile-write.met) (λ l a r x p. writes refl (profile.write-exactly (now (a .0)) (now (a .1 .0)) (now (a .1 .1 .0)) (now (a .1 .1 .1 .0))) (told-one _ _ p));
-  targets-judge = call (λ M. targets-judge.met) (λ l a r x p. reads refl (targets.judge-exactly _) (told-one _ _ p));
-  targets-target-at = call (λ M. targets-target-at.met) (λ l a r x p. p);
-  targets-write = call (λ M. targets-write.met) (λ l a r x p. writes refl (targets.write-exactly (now (a .0)) (now (a .1 .0)) (now (a .1 .1 .0))) (told-one _ _ p));
-  sample-lay-out = call (λ M. sample-lay-out.met) (λ l a r x p. reads refl (sample.layout-exactly _) (sample-told.answer-one _ _ p));
-  sample-judge = call (λ M. sample-judge.met) (λ l a r x p. reads refl (sample.judge-exactly _) (sample-told.judged-one _ _ p));
-  sample-read = call (λ M. sample-read.met) (λ l a r x p. reads refl (sample.read-exactly _) (sample-told.answer-one _ _ p));
-  sample-write = call (λ M. sample-write.met) (λ l a r x p. writes refl (sample.write-exactly _ _) (told-one _ _ p));
-  decision-read = call (λ M. decision-read.met) (λ l a r x p. reads refl (decision.read-exactly _) (told-one _ _ p));
-  decision-write = call (λ M. decision-write.met) (λ l a r x p. writes refl (decision.write-exactly _ _) (told-one _ _ p));
-  session-none = call (λ M. session-none.met) (λ l a r x p. session-told.session-one _ _ p);
-  session-is-open = call (λ M. session-is-open.met) (λ l a r x p. p);
-  session-open = call (λ M. session-open.met) (λ l a r x p. opens refl (session.open-exactly _ _) (session-told.answer-one _ _ p));
-  session-sample = call (λ M. session-sample.met) (λ l a r x p. samples refl (session.sample-exactly _ _ _ _ _) (session-told.call-one _ _ p));
-  held-read = call (λ M. held-read.met) (λ l a r x p. reads refl (held.read-exactly _) (held-one _ _ p));
-  held-write = call (λ M. held-write.met) (λ l a r x p. writes refl (held.write-exactly _ _) (told-one _ _ p));
+  calls = calls;
+  table = record { in-order = refl; no-other = one-of-twelve; apart = number-tells };
+  consist-read = λ s. reads _ refl;
+  consist-write = λ c out. writes _ _ refl;
+  profile-judge = λ p. reads _ refl;
+  profile-write = λ starts grades curvatures out. writes _ _ refl;
+  targets-judge = λ t. reads _ refl;
+  targets-write = λ locations speeds out. writes _ _ refl;
+  sample-lay-out = λ s. reads _ refl;
+  sample-judge = λ raw. reads _ refl;
+  sample-read = λ s. reads _ refl;
+  sample-write = λ raw out. writes _ _ refl;
+  decision-read = λ s. reads _ refl;
+  decision-write = λ d out. writes _ _ refl;
+  session-open = λ x s. reads _ refl;
+  session-sample = λ x s p t out. refuses _ refl refl (λ q h. rw (h));
+  held-read = λ s. reads _ refl;
+  held-write = λ x out. writes _ _ refl;
+  told = tells;
+  buongilach-open = λ consist session. tells _ (writes _ _ refl);
+  buongilach-sample = λ session s p t decision.
+      let rules = sampleRules session s p t decision in
+      let (_, x, d) = leaves session s p t decision (lowest rules) in
+      subst (λ ((n, x, d) : Sampled). RefusesC {S = List ℕ × List ℕ} (linesOf rules) rules (session, decision) (n, (x, d)))
+      (sym (by-rules session s p t decision)) (tells (lowest rules, (x, d)) (refuses (lowest rules, (x, d)) refl refl (λ q h. rw (h))));
+  buongilach-write-sample = λ fields out. tells _ (writes _ _ refl);
+  buongilach-read-decision = λ s numbers. tells _ (writes _ _ refl);
 }

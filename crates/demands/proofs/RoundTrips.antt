@@ -5,7 +5,7 @@ use Prim.Native.Nat.{ℕ, _*_, _≤_, _<_}
 use native.Mathlib.Omega.{arith}
 use lib.Dec.{eqb}
 use lib.ListN.{length, take, drop, getD}
-use lib.Seq.{ext-getD}
+use lib.Seq.{ext-getD, drop-at}
 use lib.IntN.{pos}
 use borrow.Author.Tests.{eqb-true, not-false}
 use Rattle.bits.specs.Bytes.{Bytes}
@@ -13,62 +13,69 @@ use Rattle.bits.specs.Tables.{upTo}
 use Rattle.bits.proofs.UpTo.{length-upTo, getD-upTo}
 use Rattle.refusal.specs.declared.Refusal.the-variants.{WrongLength}
 use Rattle.refusal.specs.declared.Verdict.{Verdict}
-use Rattle.refusal.specs.declared.Verdict.the-variants.{Accepted}
+use Rattle.refusal.specs.declared.Verdict.the-variants.{Accepted, Refused}
 use Rattle.refusal.specs.Lowest.{Rule, lowest}
-use Rattle.refusal.proofs.Order.{accepted}
-use Rattle.refusal.proofs.Numbers.{told-one}
+use Rattle.refusal.specs.Number.{told}
+use Rattle.refusal.specs.Written.{written}
+use Rattle.refusal.proofs.Order.{accepted, append-accepted, written-accepted}
+use Rattle.refusal.proofs.Numbers.{verdict-accepted}
 use Rattle.record.specs.Record.{wrongLength}
-use Rattle.consist.specs.Consist.{readConsist, writeConsist}
-use Rattle.consist.specs.Consist as consist-specs
+use Rattle.consist.specs.Consist as consist
 use Rattle.consist.specs.RoundTrip as consist-trip
-use Rattle.consist.proofs.RoundTrip as consist
+use Rattle.consist.proofs.RoundTrip as consist-back
 use Rattle.profile.specs.declared.Segment.{Segment}
-use Rattle.profile.specs.Profile.{writeProfile}
-use Rattle.profile.specs.Profile as profile-specs
+use Rattle.table.specs.Table as table
+use Rattle.table.proofs.Writing.{length-bytes-of}
+use Rattle.profile.specs.Profile.{size as profileSize, segments, segmentOf, judgeProfile, writeRules as profileRules, writeProfile}
 use Rattle.profile.specs.RoundTrip.{startsIn, gradesIn, curvaturesIn}
 use Rattle.profile.specs.RoundTrip as profile-trip
-use Rattle.profile.proofs.Sound as profile-sound
-use Rattle.profile.proofs.RoundTrip as profile
+use Rattle.profile.proofs.RoundTrip as profile-back
+use Rattle.profile.proofs.Sound.{written-lengths}
 use Rattle.targets.specs.declared.Target.{Target}
-use Rattle.targets.specs.Targets.{writeTargets, locationsIn, speedsIn}
-use Rattle.targets.specs.Targets as targets-specs
+use Rattle.targets.specs.Targets.{size as targetsSize, targets, targetOf, judgeTargets, locationsIn, speedsIn, writeRules as targetsRules, writeTargets}
 use Rattle.targets.specs.RoundTrip as targets-trip
+use Rattle.targets.proofs.RoundTrip as targets-back
 use Rattle.targets.proofs.Sound as targets-sound
-use Rattle.targets.proofs.RoundTrip as targets
-use Rattle.sample.specs.Sample.{readSample, writeSample}
-use Rattle.sample.specs.Sample as sample-specs
+use Rattle.sample.specs.Sample.{size as sampleSize, ofFields, bytesOf, readSample, writeRules, writeSample}
 use Rattle.sample.specs.RoundTrip as sample-trip
-use Rattle.sample.proofs.RoundTrip as sample
-use Rattle.sample.proofs.Told.{answer-one}
+use Rattle.sample.proofs.RoundTrip as sample-back
 use Rattle.decision.specs.Decision.{readDecision, writeDecision}
-use Rattle.decision.specs.Decision as decision-specs
+use Rattle.decision.specs.Decision as decision
 use Rattle.decision.specs.RoundTrip as decision-trip
-use Rattle.decision.proofs.RoundTrip as decision
-use Rattle.held.specs.Held.{readSession, writeSession}
-use Rattle.held.specs.Held as held-specs
+use Rattle.decision.proofs.RoundTrip as decision-back
+use Rattle.held.specs.Held as held
 use Rattle.held.specs.RoundTrip as held-trip
-use Rattle.held.proofs.RoundTrip as held
+use Rattle.held.proofs.RoundTrip as held-back
 use Rattle.held.proofs.Answers.{read-inv}
-use Rattle.demands.proofs.Told.{held-one}
-use Rattle.demands.specs.RoundTrips.{RoundTrip, Segments, ReadsSegments, Targets, ReadsTargets, Contracts, RoundTrips}
+use Rattle.mount.specs.Records.{sampleWriteRules, sampleWritten, decisionNumbers, numbersOf, decisionRules, decisionRead}
+use Rattle.demands.specs.RoundTrips.{ReadsBack, RoundTrip, Segments, RoundTrips}
+
+-- ---- bytes past the record
+
+written-past : (n : ℕ) (v : Verdict) (bytes out : List ℕ) → length bytes ≡ n → drop n (written v bytes out .1) ≡ drop n out
+written-past n Accepted bytes out h = drop-at bytes _ n h ∙ ap (λ (m : ℕ). drop m out) h
+written-past n (Refused r) bytes out h = refl
 
 -- ---- a record of n bytes
 
 -- what reads as a value is written back by its writer; c stands for the value
-of-size : {A C : Type 0} (n : ℕ) (value : C → A) (read : List ℕ → Verdict × A) (write : A → List ℕ → Verdict × List ℕ)
-    → ((s : List ℕ) → read s .0 ≡ Accepted → length s ≡ n)
-    → ((c : C) (out : List ℕ) → write (value c) out .0 ≡ Accepted → read (take n (write (value c) out .1)) ≡ (Accepted, value c))
-    → ((s out : List ℕ) → Bytes s → n ≤ length out → read s .0 ≡ Accepted → write (read s .1) out ≡ (Accepted, s ++ drop n out))
-    → RoundTrip (λ c. n) (λ s c. read s ≡ (Accepted, value c)) (λ c. write (value c))
-of-size {A} n value read write size there back = record {
-  written-reads-back = there;
-  accepted-writes-back = λ s out c b room h.
-      let v = ap (λ (x : Verdict × A). x .0) h in
-      let e = size s v in
-      ap (λ (x : Verdict × A). write (x .1) out) (sym h)
-      ∙ back s out b (subst (λ (m : ℕ). m ≤ length out) e room) v
-      ∙ ap (λ (m : ℕ). (Accepted, s ++ drop m out)) (sym e);
-}
+module _ {A C : Type 0} (n : ℕ) (value : C → A) (read : List ℕ → Verdict × A) (bytes : A → List ℕ) (rules : A → List ℕ → List Rule) where
+  abbrev write : A → List ℕ → Verdict × List ℕ
+  write a out = written (lowest (rules a out)) (bytes a) out
+
+  of-size : ((a : A) → length (bytes a) ≡ n) → ((s : List ℕ) → read s .0 ≡ Accepted → length s ≡ n)
+      → ((c : C) (out : List ℕ) → write (value c) out .0 ≡ Accepted → read (take n (write (value c) out .1)) ≡ (Accepted, value c))
+      → ((s out : List ℕ) → Bytes s → n ≤ length out → read s .0 ≡ Accepted → write (read s .1) out ≡ (Accepted, s ++ drop n out))
+      → RoundTrip (λ c. n) (λ s c. read s ≡ (Accepted, value c)) (λ c. write (value c))
+  of-size long size there back = record {
+    reads-back = record { written-reads-back = there; past = λ c out. written-past n (lowest (rules (value c) out)) (bytes (value c)) out (long (value c)) };
+    accepted-writes-back = λ s out c b room h.
+        let v = ap (λ (x : Verdict × A). x .0) h in
+        let e = size s v in
+        ap (λ (x : Verdict × A). write (x .1) out) (sym h)
+        ∙ back s out b (subst (λ (m : ℕ). m ≤ length out) e room) v
+        ∙ ap (λ (m : ℕ). (Accepted, s ++ drop m out)) (sym e);
+  }
 
 -- bytes that are not refused 2
 right-length : (n : ℕ) (s : List ℕ) (rules : List Rule) → lowest ((wrongLength n s, WrongLength) ∷ rules) ≡ Accepted → length s ≡ n
@@ -85,85 +92,86 @@ column d n xs f l same =
     let b : k < n = omega (arith, m) in
     getD-upTo f n k d b ∙ same k b)
 
-profile-there : (c : Segments) (out : List ℕ) → writeProfile (c .starts) (c .grades) (c .curvatures) out .0 ≡ Accepted
-    → ReadsSegments (take (profile-specs.size * length (c .starts)) (writeProfile (c .starts) (c .grades) (c .curvatures) out .1)) c
-unfolding profile-trip.WrittenReadsBack
-profile-there c out h =
-    let n = length (c .starts) in
-    let r = profile.written-reads-back (c .starts) (c .grades) (c .curvatures) out h in
-    let l = profile-sound.written-lengths (c .starts) (c .grades) (c .curvatures) out h in
-    record {
-      judged = r .judged;
-      starts = column 0 n (c .starts) _ refl (λ k b. ap (λ (g : Segment). g .start) (r .records k b));
-      grades = column (pos 0) n (c .grades) _ (l .0) (λ k b. ap (λ (g : Segment). g .grade) (r .records k b));
-      curvatures = column 0 n (c .curvatures) _ (l .1) (λ k b. ap (λ (g : Segment). g .curvature) (r .records k b));
-    }
+-- ---- for C
 
-profile-back : (p out : List ℕ) (c : Segments) → Bytes p → length p ≤ length out → ReadsSegments p c
-    → writeProfile (c .starts) (c .grades) (c .curvatures) out ≡ (Accepted, p ++ drop (length p) out)
-unfolding profile-trip.AcceptedWritesBack
-profile-back p out c b room r =
-    let n = length (c .starts) in
-    let same : writeProfile (startsIn p n) (gradesIn p n) (curvaturesIn p n) out ≡ writeProfile (c .starts) (c .grades) (c .curvatures) out =
-    rw (r .starts, r .grades, r .curvatures) in
-    sym same ∙ profile.accepted-writes-back p out n b room (r .judged)
-
-targets-there : (c : Targets) (out : List ℕ) → writeTargets (c .locations) (c .speeds) out .0 ≡ Accepted
-    → ReadsTargets (take (targets-specs.size * length (c .locations)) (writeTargets (c .locations) (c .speeds) out .1)) c
-unfolding targets-trip.WrittenReadsBack
-targets-there c out h =
-    let n = length (c .locations) in
-    let r = targets.written-reads-back (c .locations) (c .speeds) out h in
-    let l = targets-sound.written-lengths (c .locations) (c .speeds) out h in
-    record {
-      judged = r .judged;
-      locations = column 0 n (c .locations) _ refl (λ k b. ap (λ (g : Target). g .location) (r .records k b));
-      speeds = column 0 n (c .speeds) _ l (λ k b. ap (λ (g : Target). g .speed) (r .records k b));
-    }
-
-targets-back : (t out : List ℕ) (c : Targets) → Bytes t → length t ≤ length out → ReadsTargets t c
-    → writeTargets (c .locations) (c .speeds) out ≡ (Accepted, t ++ drop (length t) out)
-unfolding targets-trip.AcceptedWritesBack
-targets-back t out c b room r =
-    let n = length (c .locations) in
-    let same : writeTargets (locationsIn t n) (speedsIn t n) out ≡ writeTargets (c .locations) (c .speeds) out = rw (r .locations, r .speeds) in
-    sym same ∙ targets.accepted-writes-back t out n b room (r .judged)
-
--- ---- the contracts
-
-contracts : Contracts
-contracts = record {
-  consist-read = λ l a r x p. told-one _ _ p;
-  consist-write = λ l a r x p. sym (told-one _ _ p);
-  profile-judge = λ l a r x p. told-one _ _ p;
-  profile-segment-at = λ l a r x p. p;
-  profile-write = λ l a r x p. sym (told-one _ _ p);
-  targets-judge = λ l a r x p. told-one _ _ p;
-  targets-target-at = λ l a r x p. p;
-  targets-write = λ l a r x p. sym (told-one _ _ p);
-  sample-read = λ l a r x p. answer-one _ _ p;
-  sample-write = λ l a r x p. sym (told-one _ _ p);
-  decision-read = λ l a r x p. told-one _ _ p;
-  decision-write = λ l a r x p. sym (told-one _ _ p);
-  held-read = λ l a r x p. held-one _ _ p;
-  held-write = λ l a r x p. sym (told-one _ _ p);
-  buongilach-write-consist = λ l a r x p. sym p;
-  buongilach-write-profile = λ l a r x p. sym p;
-  buongilach-write-targets = λ l a r x p. sym p;
-  buongilach-write-sample = λ l a r x p. sym p;
-  buongilach-read-decision = λ l a r x p. sym p;
+tells : {C : Type 0} (size : C → ℕ) (Reads : List ℕ → C → Type 0) (writes : C → List ℕ → Verdict × List ℕ)
+    → ReadsBack size Reads Accepted writes → ReadsBack size Reads 0 (λ c out. told (writes c out))
+tells size Reads writes trip = record {
+  written-reads-back = λ c out h. trip .written-reads-back c out (verdict-accepted (writes c out .0) h);
+  past = trip .past;
 }
 
 -- ---- the records
 
 pub round-trips : RoundTrips
-unfolding consist-trip.WrittenReadsBack consist-trip.AcceptedWritesBack sample-trip.WrittenReadsBack sample-trip.AcceptedWritesBack decision-trip.WrittenReadsBack decision-trip.AcceptedWritesBack held-trip.WrittenReadsBack held-trip.AcceptedWritesBack readConsist readSample readDecision
+unfolding consist-trip.WrittenReadsBack consist-trip.AcceptedWritesBack profile-trip.WrittenReadsBack profile-trip.AcceptedWritesBack targets-trip.WrittenReadsBack targets-trip.AcceptedWritesBack sample-trip.WrittenReadsBack sample-trip.AcceptedWritesBack decision-trip.WrittenReadsBack decision-trip.AcceptedWritesBack held-trip.WrittenReadsBack held-trip.AcceptedWritesBack consist.readConsist readSample readDecision consist.writeConsist consist.bytesOf table.write writeSample bytesOf writeDecision decision.bytesOf held.writeSession sampleWritten decisionRead
 round-trips = record {
-  contracts = contracts;
-  consist = of-size consist-specs.size (λ c. c) readConsist writeConsist (λ s. right-length consist-specs.size s _) consist.written-reads-back consist.accepted-writes-back;
-  profile = record { written-reads-back = profile-there; accepted-writes-back = profile-back };
-  targets = record { written-reads-back = targets-there; accepted-writes-back = targets-back };
-  sample = of-size sample-specs.size sample-specs.ofFields readSample writeSample (λ s. right-length sample-specs.size s _) sample.written-reads-back sample.accepted-writes-back;
-  decision = of-size decision-specs.size (λ d. d) readDecision writeDecision (λ s. right-length decision-specs.size s _) decision.written-reads-back decision.accepted-writes-back;
-  held = of-size held-specs.size (λ x. x) readSession writeSession (λ s h. read-inv s h .0 .size) held.written-reads-back held.accepted-writes-back;
+  consist = of-size consist.size (λ c. c) consist.readConsist consist.bytesOf consist.writeRules (λ c. refl) (λ s. right-length consist.size s _)
+      consist-back.written-reads-back consist-back.accepted-writes-back;
+  profile = record {
+    reads-back = record {
+      written-reads-back = λ (starts, grades, curvatures) out h.
+          let n = length starts in
+          let r = profile-back.written-reads-back starts grades curvatures out h in
+          let l = written-lengths starts grades curvatures out h in
+          let ss = column 0 n starts _ refl (λ k b. ap (λ (g : Segment). g .start) (r .records k b)) in
+          let gs = column (pos 0) n grades _ (l .0) (λ k b. ap (λ (g : Segment). g .grade) (r .records k b)) in
+          let cs = column 0 n curvatures _ (l .1) (λ k b. ap (λ (g : Segment). g .curvature) (r .records k b)) in
+          let p = take (profileSize * n) (writeProfile starts grades curvatures out .1) in
+          ap {B = Verdict × Segments} (λ ((v, m) : Verdict × ℕ). (v, (startsIn p m, gradesIn p m, curvaturesIn p m))) (r .judged)
+          ∙ (λ i. (Accepted, (ss i, gs i, cs i)));
+      past = λ (starts, grades, curvatures) out.
+          let f = segmentOf starts grades curvatures in
+          let n = length starts in
+          written-past (profileSize * n) (lowest (profileRules starts grades curvatures out)) (table.bytesOf segments n f) out (length-bytes-of segments f n);
+    };
+    accepted-writes-back = λ p out c b room h.
+        ap (λ ((v, (starts, grades, curvatures)) : Verdict × Segments). writeProfile starts grades curvatures out) (sym h)
+        ∙ profile-back.accepted-writes-back p out _ b room (λ i. (h i .0, judgeProfile p .1));
+  };
+  targets = record {
+    reads-back = record {
+      written-reads-back = λ (locations, speeds) out h.
+          let n = length locations in
+          let r = targets-back.written-reads-back locations speeds out h in
+          let ls = column 0 n locations _ refl (λ k b. ap (λ (g : Target). g .location) (r .records k b)) in
+          let ss = column 0 n speeds _ (targets-sound.written-lengths locations speeds out h) (λ k b. ap (λ (g : Target). g .speed) (r .records k b)) in
+          let t = take (targetsSize * n) (writeTargets locations speeds out .1) in
+          ap {B = Verdict × (List ℕ × List ℕ)} (λ ((v, m) : Verdict × ℕ). (v, (locationsIn t m, speedsIn t m))) (r .judged) ∙ (λ i. (Accepted, (ls i, ss i)));
+      past = λ (locations, speeds) out.
+          let f = targetOf locations speeds in
+          let n = length locations in
+          written-past (targetsSize * n) (lowest (targetsRules locations speeds out)) (table.bytesOf targets n f) out (length-bytes-of targets f n);
+    };
+    accepted-writes-back = λ t out c b room h.
+        ap (λ ((v, (locations, speeds)) : Verdict × (List ℕ × List ℕ)). writeTargets locations speeds out) (sym h)
+        ∙ targets-back.accepted-writes-back t out _ b room (λ i. (h i .0, judgeTargets t .1));
+  };
+  sample = of-size sampleSize ofFields readSample bytesOf writeRules (λ c. refl) (λ s. right-length sampleSize s _)
+      sample-back.written-reads-back sample-back.accepted-writes-back;
+  decision = of-size decision.size (λ d. d) readDecision decision.bytesOf decision.writeRules (λ d. refl) (λ s. right-length decision.size s _)
+      decision-back.written-reads-back decision-back.accepted-writes-back;
+  held = of-size held.size (λ x. x) held.readSession held.bytesOf held.writeRules held-back.size-of (λ s h. read-inv s h .0 .size)
+      held-back.written-reads-back held-back.accepted-writes-back;
+  told = tells;
+  -- where the writer that refuses more accepts, both write the same
+  buongilach-write-sample = record {
+    written-reads-back = λ fields out h.
+        let raw = ofFields fields in
+        let v = written-accepted _ (bytesOf raw) out (verdict-accepted _ h) in
+        let e = ap (λ (w : Verdict). written w (bytesOf raw) out) (v ∙ sym (accepted _ _ _ v .1)) in
+        ap (λ (w : Verdict × List ℕ). readSample (take sampleSize (w .1))) e
+        ∙ sample-back.written-reads-back fields out (sym (ap (λ (w : Verdict × List ℕ). w .0) e) ∙ verdict-accepted _ h);
+    past = λ fields out. written-past sampleSize (lowest (sampleWriteRules fields out)) (bytesOf (ofFields fields)) out refl;
+  };
+  buongilach-read-decision = record {
+    written-reads-back = λ s numbers h.
+        let d = decision.decisionIn s in
+        let v = written-accepted _ (numbersOf d) numbers (verdict-accepted _ h) in (
+          d,
+          ap (λ (w : Verdict). decision.answer w d) (append-accepted (decision.readRules s) _ v),
+          ap (λ (w : Verdict). take decisionNumbers (written w (numbersOf d) numbers .1)) v,
+        );
+    past = λ s numbers. written-past decisionNumbers (lowest (decisionRules s numbers)) (numbersOf (decision.decisionIn s)) numbers refl;
+  };
 }

@@ -1,170 +1,176 @@
 -- The useless programs do not meet the contracts: each answers the case of document 01 otherwise. Assumes nothing.
-use mathlib.Core.Path.{_≡_, refl, sym, ap, subst, _∙_}
-use mathlib.Core.Bool.{true, false}
-use mathlib.Core.List.{List, [], _∷_}
-use Prim.Native.Nat.{ℕ}
+use mathlib.Core.Path.{_≡_, refl, sym, ap, _∙_}
+use mathlib.Core.Bool.{Bool, true, _&&_}
+use mathlib.Core.List.{List, [], _∷_, map}
+use Prim.Native.Nat.{ℕ, zero, suc, _^_}
 use native.Mathlib.Omega.{arith}
-use lib.ListN.{take, drop}
+use lib.Dec.{ltb}
+use lib.ListN.{length, getD, take, drop}
+use borrow.Author.Tests.{ltb-true}
 use borrow.Fn.World.{ArgsD}
+use Rattle.bits.specs.Bytes.{Bytes}
+use Rattle.bits.proofs.Ranges.{and-true-left, and-true-right}
+use Rattle.refusal.specs.declared.Refusal.the-variants.{WrongTime}
+use Rattle.refusal.specs.declared.Verdict.{Verdict}
+use Rattle.refusal.specs.declared.Verdict.the-variants.{Accepted, Refused}
 use Rattle.targets.specs.Targets.{most, speedsIn}
-use Rattle.decision.specs.Decision.{size}
-use Rattle.track.specs.Track.{layOf}
+use Rattle.decision.specs.declared.Decision.{Decision}
+use Rattle.decision.specs.Decision.{size, readDecision}
 use Rattle.walk.specs.declared.Prediction.{Prediction}
 use Rattle.walk.specs.Curve.{penaltyCurve}
 use Rattle.walk.proofs.predict.{signature}
+use Rattle.judge.specs.Approach.{Approach, predictionOf}
 use Rattle.session.specs.declared.Session.{Session}
-use Rattle.session.specs.Sample.{sampleIn, brakeAfter, predictionOf, decisionOf}
-use Rattle.session.specs.Figures as case
+use Rattle.session.specs.Session.{noneOpen}
+use Rattle.session.specs.Sample.{sampleIn, brakeAfter, approach}
+use Rattle.session.specs.Laws.{Lent}
 use Rattle.session.proofs.Accepted.{predictable, walkable}
 use Rattle.session.proofs.Admitted.{ready}
-use Rattle.demands.specs.Program.{Program, Meets, ours}
-use Rattle.demands.specs.Run.{Call, opening, sampling, Reply, replyOf, afterCalls, Accepts, Decides}
-use Rattle.demands.specs.Useless.{Lends, LendsEach, IsRefused, RefusesOpenings, RefusesSamples, said, Constant, SessionUntouched, OutputUntouched, StepRepeated, RepeatsStep, RepeatsSample, Walker, MeetsPredict, WalkRepeatsStep, UselessRejected}
-use Rattle.demands.proofs.Same.{same, same-reply, same-after}
-use Rattle.demands.proofs.Decided.{before, decided}
-use Rattle.demands.proofs.Slices.{slice}
-use Rattle.demands.proofs.Case.{first, second, opened, standing, computed}
+use Rattle.session.proofs.Computing.{computing}
+use Rattle.demands.specs.Machine.{Call, opening, sampling, Slice, Lends, LendsEach, Reply, Machine, call, replies, after, ours, Holding, Unopened, Does, Accepts, Decides}
+use Rattle.demands.specs.History.{brakes, callsIn, firstCall, nothing, paperFrom}
+use Rattle.demands.specs.Demand2.{telling, Demand-2}
+use Rattle.demands.specs.Case as case
+use Rattle.demands.specs.Useless.{stepAgain, walkAgain, stopAgain, stopBy, IsRefused, said, NotUseless, Walker, MeetsPredict, WalkRepeatsStep, WalkNotUseless}
+use Rattle.demands.proofs.Carried.{Lawful, after-holds}
+use Rattle.demands.proofs.Machine.{before}
 
 -- ---- what is lent in the case
 
--- before its first sample, and before its second
-abbrev one-before : List Call
-one-before = opening case.consist ∷ []
+-- computed of a list that is written out
+abbrev allBytes : List ℕ → Bool
+allBytes [] = true
+allBytes (a ∷ s) = ltb a 256 && allBytes s
 
-abbrev two-before : List Call
-two-before = opening case.consist ∷ sampling first ∷ []
+all-bytes : (s : List ℕ) → allBytes s ≡ true → Bytes s
+all-bytes [] h i = omega arith
+all-bytes (a ∷ s) h zero = ltb-true a 256 (and-true-left (ltb a 256) (allBytes s) h)
+all-bytes (a ∷ s) h (suc i) = all-bytes s (and-true-right (ltb a 256) (allBytes s) h) i
 
-first-lent : Lends (sampling first)
-first-lent = (slice (first .sample) refl, slice (first .profile) refl, slice (first .targets) refl, slice (first .out) refl)
+slice : (s : List ℕ) → allBytes s && ltb (length s) (2 ^ 63) ≡ true → Slice s
+slice s h =
+    let short = ltb (length s) (2 ^ 63) in
+    (all-bytes s (and-true-left (allBytes s) short h), ltb-true (length s) (2 ^ 63) (and-true-right (allBytes s) short h))
 
-second-lent : Lends (sampling second)
-second-lent = (slice (second .sample) refl, slice (second .profile) refl, slice (second .targets) refl, slice (second .out) refl)
+-- 0, 5,000, 0.0, and 1, 5,000, 1.0
+abbrev nth : ℕ → Lent
+nth zero = record { sample = case.sample 0 0 0; profile = case.profile; targets = case.targets; out = case.out }
+nth (suc n) = record { sample = case.sample 1 63 128; profile = case.profile; targets = case.targets; out = case.out }
 
-one-lent : LendsEach one-before
-one-lent = (slice case.consist refl, tt)
+-- an opening, the first sample, and the first or the second one
+abbrev run : ℕ → List Call
+run n = opening case.consist ∷ sampling (nth 0) ∷ sampling (nth n) ∷ []
 
-two-lent : LendsEach two-before
-two-lent = (slice case.consist refl, (first-lent, tt))
+opening-lent : Slice case.consist
+opening-lent = slice case.consist refl
 
-not-refused : (r : Reply) → IsRefused r → Accepts r → ⊥
-not-refused r n a = let e = n .1 in let z : _≡_ {A = ℕ} 0 1 = cc in omega arith
+lent : (n : ℕ) → Lends (sampling (nth n))
+lent zero = (slice (nth 0 .sample) refl, slice (nth 0 .profile) refl, slice (nth 0 .targets) refl, slice (nth 0 .out) refl)
+lent (suc n) = (slice (nth 1 .sample) refl, slice (nth 1 .profile) refl, slice (nth 1 .targets) refl, slice (nth 1 .out) refl)
 
-module _ (p : Program) (m : Meets p) where
-  reached : (ks : List Call) → afterCalls p (p .none) ks ≡ afterCalls ours (ours .none) ks
-  reached ks = same-after p m (p .none) ks ∙ ap (λ (x : Session). afterCalls ours x ks) (same p m .none)
+-- ---- the case, computed
 
-  -- the session before each of the two, and the reply
-  abbrev one-session : Session
-  one-session = afterCalls p (p .none) one-before
+-- the session before the second sample, and the approach that this makes
+abbrev standing : Session
+standing = call ours (call ours noneOpen (opening case.consist) .state) (sampling (nth 0)) .state
 
-  abbrev two-session : Session
-  two-session = afterCalls p (p .none) two-before
+abbrev second : Session → Approach
+second x = approach x (sampleIn (nth 1 .sample)) (nth 1 .profile)
 
-  one-opened : one-session ≡ opened
-  unfolding afterCalls
-  one-opened = reached one-before
+abbrev decision : Decision
+decision = record { time = 1; state = 0; penalty = true; cause = 1; stop = 5032 }
 
-  two-standing : two-session ≡ standing
-  unfolding afterCalls
-  two-standing = reached two-before
+-- the lines `0 0 0 0 5000` and `1 0 1 1 5032`; 9 for the first sample again; the stop, and that by the repeated step
+record Case : Type 0 where
+  honest : paperFrom nothing (run 1) ≡ (Accepted, []) ∷ (Accepted, 68 ∷ 0 ∷ 0 ∷ 0 ∷ 0 ∷ 0 ∷ 19 ∷ 136 ∷ []) ∷ (Accepted, 68 ∷ 0 ∷ 0 ∷ 1 ∷ 17 ∷ 0 ∷ 19 ∷ 168 ∷ []) ∷ []
+  again : paperFrom nothing (run 0) ≡ (Accepted, []) ∷ (Accepted, 68 ∷ 0 ∷ 0 ∷ 0 ∷ 0 ∷ 0 ∷ 19 ∷ 136 ∷ []) ∷ (Refused WrongTime, case.out) ∷ []
+  read : readDecision (68 ∷ 0 ∷ 0 ∷ 1 ∷ 17 ∷ 0 ∷ 19 ∷ 168 ∷ []) ≡ (Accepted, decision)
+  accepted : call ours standing (sampling (nth 1)) .told ≡ Accepted
+  stop : predictionOf (second standing) (speedsIn (nth 1 .targets) most) .stop ≡ 5032
+  stop-again : stopBy (second standing) ≡ 5048
 
-  abbrev one : Reply
-  one = replyOf p one-session (sampling first)
+computed : Case
+unfolding computing stepAgain walkAgain stopAgain brakes callsIn firstCall paperFrom
+computed = record { honest = refl; again = refl; read = refl; accepted = refl; stop = refl; stop-again = refl }
 
-  abbrev two : Reply
-  two = replyOf p two-session (sampling second)
+-- ---- a machine
 
-  one-is : one ≡ replyOf ours opened (sampling first)
-  one-is = same-reply p m one-session (sampling first) ∙ ap (λ (x : Session). replyOf ours x (sampling first)) one-opened
+module _ {S T : Type 0} (h : Holding S T) (w : Lawful h) (m : Machine S T) (does : Does h m) (u : Unopened h (m .none)) (demand-2 : Demand-2 h m) where
+  -- before the first sample, and after it
+  abbrev opened : S
+  opened = call m (m .none) (opening case.consist) .state
 
-  two-is : two ≡ replyOf ours standing (sampling second)
-  two-is = same-reply p m two-session (sampling second) ∙ ap (λ (x : Session). replyOf ours x (sampling second)) two-standing
+  abbrev one : Reply S T
+  one = call m opened (sampling (nth 0))
 
-  one-accepted : Accepts one
-  one-accepted = ap (λ (r : Reply). r .0 .verdict) one-is ∙ computed .first-accepted
+  -- and what the sample after it is replied
+  abbrev two : ℕ → Reply S T
+  two n = call m (one .state) (sampling (nth n))
 
-  two-accepted : Accepts two
-  two-accepted = ap (λ (r : Reply). r .0 .verdict) two-is ∙ computed .second-accepted
+  replied : (n : ℕ) (rs : List (Verdict × List ℕ)) → paperFrom nothing (run n) ≡ rs
+      → (call m (m .none) (opening case.consist) .told, []) ∷ (one .told, one .out) ∷ (two n .told, two n .out) ∷ [] ≡ map (telling h) rs
+  unfolding replies
+  replied n rs e = demand-2 .told (run n) (opening-lent, (lent 0, (lent n, tt))) ∙ ap (map (telling h)) e
 
-  told-otherwise : said two ≡ said one → ⊥
-  told-otherwise e =
-      let one-told : said one ≡ 0 ∷ 0 ∷ 19 ∷ 136 ∷ [] = ap said one-is ∙ ap (λ (l : List ℕ). drop 4 (take size l)) (computed .first-line) in
-      let two-told : said two ≡ 17 ∷ 0 ∷ 19 ∷ 168 ∷ [] = ap said two-is ∙ ap (λ (l : List ℕ). drop 4 (take size l)) (computed .second-line) in
-      let z : _≡_ {A = ℕ} 17 0 = cc in
-      omega arith
+  -- the reply to a call of the honest run, by its place
+  honest-at : {A : Type 0} (f : T × List ℕ → A) (i : ℕ) →
+      f (getD ((call m (m .none) (opening case.consist) .told, []) ∷ (one .told, one .out) ∷ (two 1 .told, two 1 .out) ∷ []) i (h .tell Accepted, []))
+      ≡ f (getD (map (telling h) ((Accepted, []) ∷ (Accepted, 68 ∷ 0 ∷ 0 ∷ 0 ∷ 0 ∷ 0 ∷ 19 ∷ 136 ∷ []) ∷ (Accepted, 68 ∷ 0 ∷ 0 ∷ 1 ∷ 17 ∷ 0 ∷ 19 ∷ 168 ∷ []) ∷ [])) i (h .tell Accepted, []))
+  honest-at f i = ap (λ (l : List (T × List ℕ)). f (getD l i (h .tell Accepted, []))) (replied 1 _ (computed .honest))
 
-  -- ---- the kinds
+  not-both : (r : Reply S T) → IsRefused h m r → Accepts h r → ⊥
+  not-both r n a = let e = w .apart (Refused (n .0)) Accepted (sym (n .1) ∙ a) in let z : _≡_ {A = ℕ} 0 1 = cc in omega arith
 
-  refuses-openings : RefusesOpenings p → ⊥
-  unfolding afterCalls
-  refuses-openings k =
-      not-refused (replyOf p (p .none) (opening case.consist)) (k [] case.consist tt (slice case.consist refl))
-      (ap (λ (r : Reply). r .0 .verdict) (same-reply p m (p .none) (opening case.consist))
-      ∙ ap (λ (x : Session). replyOf ours x (opening case.consist) .0 .verdict) (same p m .none) ∙ computed .opens)
-
-  refuses-samples : RefusesSamples p → ⊥
-  refuses-samples k = not-refused one (k one-before first one-lent first-lent) one-accepted
-
-  constant : Constant p → ⊥
-  constant k = told-otherwise (k .1 two-before second two-lent second-lent two-accepted ∙ sym (k .1 one-before first one-lent first-lent one-accepted))
-
-  session-untouched : SessionUntouched p → ⊥
-  session-untouched k =
-      let e : standing ≡ opened = sym (ap (λ (r : Reply). r .0 .session) one-is) ∙ k one-before first one-lent first-lent ∙ one-opened in
-      let f : true ≡ false = sym (computed .sampled) ∙ ap (λ (x : Session). x .brake .sampled) e ∙ computed .not-sampled in
-      let z : _≡_ {A = ℕ} 0 1 = cc in
-      omega arith
-
-  output-untouched : OutputUntouched p → ⊥
-  output-untouched k =
-      let e = sym (computed .first-line) ∙ sym (ap (λ (r : Reply). r .1) one-is) ∙ k one-before first one-lent first-lent in
-      let z : _≡_ {A = ℕ} 68 0 = cc in
-      omega arith
-
-  repeats-step : RepeatsStep p → ⊥
-  repeats-step k =
-      let l = second in
-      let d = decisionOf standing (sampleIn (l .sample)) (l .profile) (l .targets) in
-      let said = subst (λ (x : Session). StepRepeated x l (replyOf p x (sampling l))) two-standing (k two-before l two-lent second-lent) in
-      let decides = decided standing (l .sample) (l .profile) (l .targets) (l .out) (computed .second-accepted) in
-      let e = said d (subst (λ (r : Reply). Decides r d) (sym (same-reply p m standing (sampling l))) decides) in
-      let z : _≡_ {A = ℕ} 5032 5048 = sym (computed .stop) ∙ e ∙ computed .stop-again in
-      omega arith
-
-  repeats-sample : RepeatsSample p → ⊥
-  unfolding afterCalls
-  repeats-sample k = told-otherwise (k one-before first one-lent first-lent second second-lent one-accepted two-accepted)
+  pub not-useless : NotUseless h m
+  unfolding after
+  not-useless =
+      let one-before : List Call = opening case.consist ∷ [] in
+      let two-before : List Call = opening case.consist ∷ sampling (nth 0) ∷ [] in
+      let bs : LendsEach one-before = (opening-lent, tt) in
+      let bs′ : LendsEach two-before = (opening-lent, (lent 0, tt)) in
+      let one-accepted : Accepts h one = honest-at (λ r. r .0) 1 in
+      let two-accepted : Accepts h (two 1) = honest-at (λ r. r .0) 2 in
+      let otherwise : said h m (two 1) ≡ said h m one → ⊥ =
+      λ e.
+      let z : _≡_ {A = ℕ} 17 0 =
+      sym (honest-at (λ r. getD (drop 4 (take size (r .1))) 0 0) 2) ∙ ap (λ (l : List ℕ). getD l 0 0) e ∙ honest-at (λ r. getD (drop 4 (take size (r .1))) 0 0) 1 in
+      omega arith in
+      record {
+        refuses-openings = λ k. not-both (call m (m .none) (opening case.consist)) (k [] case.consist tt opening-lent) (honest-at (λ r. r .0) 0);
+        refuses-samples = λ k. not-both one (k one-before (nth 0) bs (lent 0)) one-accepted;
+        constant = λ b k. otherwise (k two-before (nth 1) bs′ (lent 1) two-accepted ∙ sym (k one-before (nth 0) bs (lent 0) one-accepted));
+        session-untouched = λ k.
+            not-both (two 0) (WrongTime, ap (λ (l : List (T × List ℕ)). getD l 2 (h .tell Accepted, []) .0) (replied 0 _ (computed .again)))
+            (ap (λ (z : S). call m z (sampling (nth 0)) .told) (k one-before (nth 0) bs (lent 0)) ∙ one-accepted);
+        output-untouched = λ k.
+            let z : _≡_ {A = ℕ} 68 0 = sym (honest-at (λ r. getD (r .1) 0 0) 1) ∙ ap (λ (l : List ℕ). getD l 0 0) (k one-before (nth 0) bs (lent 0)) in
+            omega arith;
+        repeats-step = λ k.
+            let held = after-holds h w m does (m .none) noneOpen u two-before bs′ .1 in
+            let decides : Decides h (two 1) decision = record { accepted = two-accepted; reads = honest-at (λ r. readDecision (take size (r .1))) 2 ∙ computed .read } in
+            let z : _≡_ {A = ℕ} 5032 5048 =
+            k two-before (nth 1) bs′ (lent 1) decision decides ∙ ap (λ (x : Session). stopBy (second x)) held ∙ computed .stop-again in
+            omega arith;
+        repeats-sample = λ k. otherwise (k one-before (nth 0) bs (lent 0) (nth 1) (lent 1) one-accepted two-accepted);
+      }
 
 -- ---- the walk by itself
 
 walk-repeats-step : (w : Walker) → MeetsPredict w → WalkRepeatsStep w → ⊥
 unfolding predictionOf
 walk-repeats-step w meets k =
-    let c = standing .consist in
-    let m = sampleIn (second .sample) in
-    let b = brakeAfter standing m in
-    let p = second .profile in
-    let admitted = before standing (second .sample) p (second .targets) (second .out) (computed .second-accepted) in
-    let asked = walkable c b m p (predictable standing m p (ready standing (second .sample) p (second .targets) admitted)) in
-    let curve = penaltyCurve c (b .a) (b .b) in
-    let speeds = speedsIn (second .targets) most in
-    let given : ArgsD signature tt = (c, (curve, (layOf p, (m .head, (m .speed, (speeds, tt)))))) in
-    let found = meets tt given given asked in
+    let l = nth 1 in
+    let m = sampleIn (l .sample) in
+    let x = second standing in
+    let admitted = ready standing (l .sample) (l .profile) (l .targets) (before standing l (computed .accepted)) in
+    let asked = walkable (x .consist) (brakeAfter standing m) m (l .profile) (predictable standing m (l .profile) admitted) in
+    let curve = penaltyCurve (x .consist) (x .a) (x .b) in
+    let speeds = speedsIn (l .targets) most in
+    let given : ArgsD signature tt = (x .consist, (curve, (x .track, (x .head, (x .speed, (speeds, tt)))))) in
+    let found = ap (λ (f : Prediction). f .stop) (meets tt given given asked) in
     let z : _≡_ {A = ℕ} 5032 5048 =
-    sym (computed .stop) ∙ sym (ap (λ (f : Prediction). f .stop) found) ∙ k c curve (layOf p) (m .head) (m .speed) speeds asked ∙ computed .stop-again in
+    sym (computed .stop) ∙ sym found ∙ k (x .consist) curve (x .track) (x .head) (x .speed) speeds asked ∙ computed .stop-again in
     omega arith
 
-pub useless-rejected : UselessRejected
-useless-rejected = record {
-  program = λ p m. record {
-    refuses-openings = refuses-openings p m;
-    refuses-samples = refuses-samples p m;
-    constant = constant p m;
-    session-untouched = session-untouched p m;
-    output-untouched = output-untouched p m;
-    repeats-step = repeats-step p m;
-    repeats-sample = repeats-sample p m;
-  };
-  walks = λ κs a x h. refl;
-  walk = walk-repeats-step;
-}
+pub walk-not-useless : WalkNotUseless
+walk-not-useless = record { meets = λ κs a x h. refl; repeats-step = walk-repeats-step }

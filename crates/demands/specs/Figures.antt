@@ -1,7 +1,6 @@
 -- "Figures to meet", all cases marked P as one table under a single statement. Its proof is `figures` of proofs/Figures.antt.
 use mathlib.Core.Path.{_≡_}
 use mathlib.Core.Bool.{true}
-use mathlib.Core.List.{[], _∷_}
 use lib.IntN.{pos, negsuc}
 use Rattle.refusal.specs.declared.Verdict.the-variants.{Accepted}
 use Rattle.hundredths.specs.declared.Reading.the-variants.{Hundredths}
@@ -16,8 +15,9 @@ use Rattle.walk.specs.Curve.{cylinderAt, forceAt, penaltyCurve}
 use Rattle.walk.specs.Step.{loss, stepTime}
 use Rattle.judge.specs.Judge.{offsetFor}
 use Rattle.session.specs.Sample.{sampleCall}
-use Rattle.session.specs.Figures.{standing, sample, profile, targets, out}
 use Rattle.feed.specs.Line.{decisionText}
+use Rattle.feed.specs.Case.{secondLine}
+use Rattle.demands.specs.Case.{standing, sample, profile, targets, out}
 
 -- `train` is the train of the case: 10 cars, 40 axles, 1,000 tons, 600 ft, 200,000 lb, 30,000 ms, recharge 50, set 9,000, offset 500.
 -- `standing` is its session after the first sample. `negsuc n` is -(n + 1).
@@ -53,4 +53,4 @@ pub record Figures : Type 0 where
   pub speed : speedAt 0x3f33_3333 ≡ Hundredths 70
   -- "P for the second line": what is decided on the sample 1, 5,000, 1.0, and its text
   pub second-line : readDecision (sampleCall standing (sample 1 63 128) profile targets out .1) ≡ (Accepted, second)
-  pub second-text : decisionText second ≡ 49 ∷ 32 ∷ 48 ∷ 32 ∷ 49 ∷ 32 ∷ 49 ∷ 32 ∷ 53 ∷ 48 ∷ 51 ∷ 50 ∷ 10 ∷ []
+  pub second-text : decisionText second ≡ secondLine

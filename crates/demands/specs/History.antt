@@ -1,52 +1,53 @@
 -- What the paper says of a call, by the history before it: the samples accepted since the opening, the latest first, each with the profile and
--- the targets lent to it. Definitions only.
-use mathlib.Core.Bool.{Bool, false, _&&_, not, cond}
+-- the targets lent to it. Then what it does with a run: any list of calls, from nothing on. Definitions only.
+use mathlib.Core.Bool.{Bool, true, false, _&&_, not, cond}
 use mathlib.Core.List.{List, [], _∷_, _++_}
 use Prim.Native.Nat.{ℕ, _+_}
 use lib.Dec.{leb, eqb}
-use Rattle.refusal.specs.Lowest.{Rule}
-use Rattle.refusal.specs.Written.{noRoom}
-use Rattle.refusal.specs.declared.Refusal.the-variants.{BrokenProfile, BrokenTargets, BadReading, WrongTime, NotCovered, TooFast, NoRoom}
+use Rattle.refusal.specs.Lowest.{Rule, lowest}
+use Rattle.refusal.specs.Steps.{kept}
+use Rattle.refusal.specs.Written.{written}
+use Rattle.refusal.specs.declared.Refusal.the-variants.{NoSession}
+use Rattle.refusal.specs.declared.Verdict.{Verdict}
+use Rattle.refusal.specs.declared.Verdict.the-variants.{Refused}
 use Rattle.consist.specs.declared.Consist.{Consist}
-use Rattle.profile.specs.Profile as profile
-use Rattle.targets.specs.Targets as targets
-use Rattle.targets.specs.Targets.{speedsIn, locationsIn}
+use Rattle.consist.specs.Consist.{consistIn, readRules}
+use Rattle.targets.specs.Targets.{most, speedsIn}
 use Rattle.sample.specs.declared.Sample.{Sample}
-use Rattle.sample.specs.Sample.{layoutRules, rawIn, badReading}
 use Rattle.decision.specs.declared.Decision.{Decision}
-use Rattle.decision.specs.Decision as decision
+use Rattle.decision.specs.Decision.{bytesOf}
 use Rattle.brake.specs.declared.Brake.{Brake}
 use Rattle.brake.specs.State.{stateNumber}
-use Rattle.brake.specs.Brake.{opened}
+use Rattle.brake.specs.Brake.{atOpening}
 use Rattle.brake.specs.Rules.{updateOf}
 use Rattle.walk.specs.declared.Prediction.{Prediction}
-use Rattle.judge.specs.Judge.{causeOf}
-use Rattle.session.specs.Sample.{sampleIn, notCovered, predictionOf}
+use Rattle.judge.specs.Approach.{Approach, predictionOf, callOf}
+use Rattle.session.specs.declared.Session.{Session}
+use Rattle.session.specs.Session.{noneOpen}
+use Rattle.session.specs.Table.{linesOpen}
+use Rattle.session.specs.Sample.{sampleIn, approachOf}
 use Rattle.session.specs.Laws.{Lent}
+use Rattle.demands.specs.Machine.{Call, opening, sampling}
 
 -- ---- "The air brakes, once a sample"
 
 unfoldable pub brakes : Consist → List Lent → Brake
-brakes c [] = opened c
+brakes c [] = atOpening c
 brakes c (l ∷ h) = let m = sampleIn (l .sample) in updateOf c (brakes c h) (m .time) (m .front) (m .rear)
 
 -- ---- the prediction made of the sample l after the history h
 
 -- "It starts after the update, with A, B and clock t = 0"
-unfoldable pub predictionAt : Consist → List Lent → Lent → Prediction
-predictionAt c h l = predictionOf c (brakes c (l ∷ h)) (sampleIn (l .sample)) (l .profile) (speedsIn (l .targets) targets.most)
+abbrev pub approachAt : Consist → List Lent → Lent → Approach
+approachAt c h l = approachOf c (brakes c (l ∷ h)) (sampleIn (l .sample)) (l .profile)
 
--- the first target that it calls for the penalty by, 0 for none
-unfoldable pub callAt : Consist → List Lent → Lent → ℕ
-callAt c h l =
-    let m = sampleIn (l .sample) in
-    let t = l .targets in
-    causeOf (c .offset) (m .head) (m .speed) (targets.count t) (locationsIn t targets.most) (speedsIn t targets.most) (predictionAt c h l .places)
+abbrev pub predictionAt : Consist → List Lent → Lent → Prediction
+predictionAt c h l = predictionOf (approachAt c h l) (speedsIn (l .targets) most)
 
--- the calls of a history, the earliest first
+-- the calls of a history, the earliest first: the first target that each prediction calls for the penalty by, 0 for none
 unfoldable pub callsIn : Consist → List Lent → List ℕ
 callsIn c [] = []
-callsIn c (l ∷ h) = callsIn c h ++ callAt c h l ∷ []
+callsIn c (l ∷ h) = callsIn c h ++ callOf (approachAt c h l) (l .targets) ∷ []
 
 unfoldable pub firstCall : List ℕ → ℕ
 firstCall [] = 0
@@ -75,12 +76,44 @@ wrongTimeAfter (l ∷ h) m = let last = sampleIn (l .sample) .time in not (leb (
 -- the table, as far as a sample call uses it while a session is open
 abbrev pub rulesAt : Consist → List Lent → Lent → List Rule
 rulesAt c h l =
-    layoutRules (l .sample)
-    ++ (profile.brokenIn (l .profile), BrokenProfile)
-    ∷ (targets.brokenIn (l .targets), BrokenTargets)
-    ∷ (badReading (rawIn (l .sample)), BadReading)
-    ∷ (wrongTimeAfter h (sampleIn (l .sample)), WrongTime)
-    ∷ (notCovered c (l .profile) (sampleIn (l .sample)), NotCovered)
-    ∷ (predictionAt c h l .fast, TooFast)
-    ∷ (noRoom decision.size (l .out), NoRoom)
-    ∷ []
+    linesOpen c (wrongTimeAfter h (sampleIn (l .sample))) (predictionAt c h l .fast) (l .sample) (l .profile) (l .targets) (l .out)
+
+-- ---- a run
+
+-- what stands: nothing, or a consist with the samples accepted since its opening, the latest first
+pub data Standing : Type 0 where
+  nothing : Standing
+  since : Consist → List Lent → Standing
+
+-- "Opening uses 2, 4 and 5"; 1: "a sample is offered and no session is open"
+abbrev pub verdictAt : Standing → Call → Verdict
+verdictAt st (opening s) = lowest (readRules s)
+verdictAt nothing (sampling l) = Refused NoSession
+verdictAt (since c h) (sampling l) = lowest (rulesAt c h l)
+
+-- "if refused, an earlier session stays as it was"; accepted, an opening begins a new history, and a sample is added to the one that stands
+abbrev pub next : Standing → Call → Standing
+next st (opening s) = kept (lowest (readRules s)) (since (consistIn s) []) st
+next nothing (sampling l) = nothing
+next (since c h) (sampling l) = kept (lowest (rulesAt c h l)) (since c (l ∷ h)) (since c h)
+
+-- unchanged where refused; "It writes the first 8 output bytes only."
+abbrev pub outAt : Standing → Call → List ℕ
+outAt st (opening s) = []
+outAt nothing (sampling l) = l .out
+outAt (since c h) (sampling l) = written (lowest (rulesAt c h l)) (bytesOf (decisionAt c h l)) (l .out) .1
+
+-- the session that holds what stands: the consist, the air brakes and the cause after the history
+abbrev pub sessionAt : Standing → Session
+sessionAt nothing = noneOpen
+sessionAt (since c h) = record { opened = true; consist = c; brake = brakes c h; cause = causeIn c h }
+
+-- what stands after calls
+unfoldable pub standingAfter : Standing → List Call → Standing
+standingAfter st [] = st
+standingAfter st (k ∷ ks) = standingAfter (next st k) ks
+
+-- the verdict and the output of each call
+unfoldable pub paperFrom : Standing → List Call → List (Verdict × List ℕ)
+paperFrom st [] = []
+paperFrom st (k ∷ ks) = (verdictAt st k, outAt st k) ∷ paperFrom (next st k) ks

@@ -1,19 +1,15 @@
--- What is demanded.
+-- What is demanded: statements, and the definitions that they are made of. Each is the product's; none only serves proofs.
+pub mod Calls
 pub mod Demand1
 pub mod Told
-pub mod Given
-pub mod Mounted1
+pub mod Machine
 pub mod Program
+pub mod Library
 pub mod History
-pub mod Run
 pub mod Demand2
-pub mod Mounted2
-pub mod Damage
 pub mod RoundTrips
-pub mod MountedRecords
 pub mod Demand3
-pub mod Mounted3
+pub mod Case
 pub mod Figures
-pub mod Unique
-pub mod Repeated
 pub mod Useless
+pub mod Demands

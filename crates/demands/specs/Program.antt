@@ -1,53 +1,56 @@
--- What a program is to a customer, as far as its contracts tell. Statements; proofs/Program.antt proves them.
+-- The Rattle program as a machine: session::none, session::open and session::sample. Definitions only; specs/Demands.antt says what is demanded
+-- of it.
 use mathlib.Core.Path.{_≡_}
-use mathlib.Core.List.{List}
-use Prim.Native.Nat.{ℕ}
+use mathlib.Core.List.{[], _∷_}
+use Prim.Native.Nat.{_^_, _<_}
 use borrow.Fn.World.{ArgsD}
 use contract.Lifetimes.{Lfts}
 use denote.Ref.{now}
 use denote.Triple.Clauses.{AtExit}
+use Rattle.bits.specs.Fields.{Fit}
+use Rattle.refusal.specs.declared.Verdict.{Verdict}
+use Rattle.consist.specs.Consist.{fieldsOf}
+use Rattle.brake.specs.Brake.{brakeTold}
 use Rattle.session.specs.declared.Session.{Session}
-use Rattle.session.specs.declared.Answer.{Answer}
-use Rattle.session.specs.Session.{noneOpen}
-use Rattle.session.specs.Open.{openOf}
-use Rattle.session.specs.Sample.{sampleCall}
+use Rattle.session.specs.Session.{answer}
+use Rattle.session.specs.Laws.{Lent}
 use Rattle.session.proofs.none.Reads as none-reads
+use Rattle.session.proofs.open as open-call
 use Rattle.session.proofs.open.Reads as open-reads
-use Rattle.session.proofs.sample.{signature, ended}
+use Rattle.session.proofs.sample as sample-call
 use Rattle.session.proofs.sample.Reads as sample-reads
+use Rattle.demands.specs.Machine.{Slice, Lends, sampling, Machine, ours, Holding}
 
--- the value before any opening; an opening, of a session and a consist's bytes; a sample call, of a session, the bytes of sample, profile and
--- targets, and the output, which it hands back
-pub record Program : Type 0 where
-  pub none : Session
-  pub opens : Session → List ℕ → Answer
-  pub samples : Session → List ℕ → List ℕ → List ℕ → List ℕ → Answer × List ℕ
+-- ---- a state is the session itself, and a verdict is told as it is
 
--- ---- the contracts of session::none, session::open and session::sample, as the check reads them from the source
+-- each field fits its word: of the consist and of the brake in the order of `fieldsOf` and `brakeTold`, and the cause
+abbrev pub FitsWords : Session → Type 0
+FitsWords x =
+    Fit (16 ∷ 16 ∷ 16 ∷ 16 ∷ 32 ∷ 32 ∷ 16 ∷ 16 ∷ 16 ∷ []) (fieldsOf (x .consist))
+    × Fit (8 ∷ 16 ∷ 16 ∷ 16 ∷ 16 ∷ 16 ∷ 16 ∷ 16 ∷ 32 ∷ 1 ∷ []) (brakeTold (x .brake))
+    × (x .cause < 2 ^ 8)
 
--- what the program makes of a sample call's arguments
-abbrev pub sampled : Program → (κs : Lfts 4) → ArgsD signature κs → Answer × List ℕ
-sampled p κs a = p .samples (a .0) (now (a .1 .0)) (now (a .1 .1 .0)) (now (a .1 .1 .1 .0)) (now (a .1 .1 .1 .1 .0))
+abbrev pub byValue : Holding Session Verdict
+byValue = record { Fits = FitsWords; session = λ x. x; put = λ x y. y; tell = λ v. v }
 
--- for every input, each contract holds of what the program gives: for a sample call, where the output at exit is what the program hands back.
--- Inputs are not held to the width of a word: where a program that runs has no value, `ours` can stand in for it.
-pub record Meets (p : Program) : Type 0 where
-  pub none : (κs : Lfts 0) (a : _) (x : _) → none-reads.Post κs a (p .none) x
-  pub opens : (κs : Lfts 1) (a : _) (x : _) → open-reads.Post κs a (p .opens (a .0) (now (a .1 .0))) x
-  pub samples : (κs : Lfts 4) (a : ArgsD signature κs) (x : AtExit ended κs) →
-      now (x .1 .1 .1 .1 .0) ≡ sampled p κs a .1 → sample-reads.Post κs a (sampled p κs a .0) x
+-- ---- the contracts, as the check reads them from the source
 
--- ---- one program meets them
+-- what is given to a sample call
+abbrev pub lentTo : (κs : Lfts 4) → ArgsD sample-call.signature κs → Lent
+lentTo κs = λ (_, (s, (p, (t, (out, _))))). record { sample = now s; profile = now p; targets = now t; out = now out }
 
-abbrev pub ours : Program
-ours = record { none = noneOpen; opens = openOf; samples = sampleCall }
+-- for every input that fits its words, each contract holds of what the machine gives: for a sample call, where the output at exit is what it
+-- hands back
+pub record Meets (m : Machine Session Verdict) : Type 0 where
+  pub none : (κs : Lfts 0) (a : _) (x : _) → none-reads.Post κs a (m .none) x
+  pub opens : (κs : Lfts 1) (a : ArgsD open-call.signature κs) (x : _) → FitsWords (a .0) → Slice (now (a .1 .0)) →
+      let r = m .opens (a .0) (now (a .1 .0)) in
+      open-reads.Post κs a (answer (r .1) (r .0)) x
+  pub samples : (κs : Lfts 4) (a : ArgsD sample-call.signature κs) (x : AtExit sample-call.ended κs) → FitsWords (a .0) → Lends (sampling (lentTo κs a)) →
+      let r = m .samples (a .0) (lentTo κs a) in
+      let (_, (_, (_, (_, (out, _))))) = x in
+      now out ≡ r .out → sample-reads.Post κs a (answer (r .state) (r .told)) x
 
--- the same values, for every input
-pub record Same (p q : Program) : Type 0 where
-  pub none : p .none ≡ q .none
-  pub opens : (x : Session) (s : List ℕ) → p .opens x s ≡ q .opens x s
-  pub samples : (x : Session) (s profile targets out : List ℕ) → p .samples x s profile targets out ≡ q .samples x s profile targets out
-
-pub record OneProgram : Type 0 where
-  pub meets : Meets ours
-  pub no-other : (p : Program) → Meets p → Same p ours
+-- one that meets them, from this value on
+abbrev pub ourProgram : Session → Machine Session Verdict
+ourProgram x = record { none = x; opens = ours .opens; samples = ours .samples }

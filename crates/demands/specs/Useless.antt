@@ -1,134 +1,113 @@
--- "Four useless programs have to be rejected." Each kind as a definition, and a statement that none of it meets the contracts;
--- proofs/Useless.antt proves it.
+-- "Four useless programs have to be rejected." A statement over a machine, and one over a walk; proofs/Useless.antt proves them.
 use mathlib.Core.Path.{_≡_}
-use mathlib.Core.List.{List, [], _∷_}
-use Prim.Native.Nat.{ℕ, _^_, _<_}
-use lib.ListN.{length, take, drop}
+use mathlib.Core.List.{List}
+use Prim.Native.Nat.{ℕ, zero, suc, _+_}
+use lib.Dec.{leb}
+use lib.IntN.{pos, _-ℤ_}
+use lib.ListN.{take, drop}
 use contract.Lifetimes.{Lfts}
 use borrow.Fn.World.{ArgsD}
 use denote.Triple.Clauses.{AtExit}
-use Rattle.bits.specs.Bytes.{Bytes}
+use Rattle.whole.specs.Floor.{cut}
+use Rattle.whole.specs.Root.{rootOf}
 use Rattle.refusal.specs.declared.Refusal.{Refusal}
 use Rattle.refusal.specs.declared.Verdict.the-variants.{Refused}
 use Rattle.consist.specs.declared.Consist.{Consist}
 use Rattle.decision.specs.declared.Decision.{Decision}
-use Rattle.decision.specs.Decision as decision
+use Rattle.decision.specs.Decision.{size}
 use Rattle.track.specs.declared.Track.{Track}
-use Rattle.track.specs.Track.{layOf}
 use Rattle.walk.specs.declared.Curve.{Curve}
 use Rattle.walk.specs.declared.Prediction.{Prediction}
-use Rattle.walk.specs.Curve.{forceAt, penaltyCurve}
-use Rattle.walk.specs.Step.{groundOf}
-use Rattle.walk.specs.Walk.{predictOf}
+use Rattle.walk.specs.declared.Run.{Run}
+use Rattle.walk.specs.Curve.{forceAt}
+use Rattle.walk.specs.Step.{Ground, groundOf, loss, stepTime}
+use Rattle.walk.specs.Walk.{Arrival, never, tooFast, arrivalBy, start, locationOf, predictOf}
 use Rattle.walk.specs.Range.{Walkable}
 use Rattle.walk.proofs.predict.{signature, ended}
 use Rattle.walk.proofs.predict.Reads as predict-reads
-use Rattle.session.specs.declared.Session.{Session}
-use Rattle.session.specs.Sample.{sampleIn, brakeAfter}
+use Rattle.judge.specs.Approach.{Approach, force, ground}
+use Rattle.session.specs.Sample.{sampleIn, approach}
 use Rattle.session.specs.Laws.{Lent}
-use Rattle.demands.specs.Program.{Program, Meets}
-use Rattle.demands.specs.Run.{Call, opening, sampling, Reply, replyOf, afterCalls, Accepts, Decides}
-use Rattle.demands.specs.Repeated.{stopAgain}
+use Rattle.demands.specs.Machine.{Call, opening, sampling, Slice, Lends, LendsEach, Reply, Machine, call, after, Holding, Accepts, Decides}
 
--- ---- what a customer can do: call with the session that the last call handed back, and lend slices of bytes
+-- ---- the walk that makes one honest step and repeats it
 
-abbrev pub Slice : List ℕ → Type 0
-Slice s = Bytes s × (length s < 2 ^ 63)
+-- a step from the values at the start of the first one, and not from those at its own
+unfoldable pub stepAgain : Consist → (ℕ → ℕ) → Ground → Run → Run → Run
+stepAgain c force ground first r = record {
+  head = r .head + 16;
+  clock = r .clock + stepTime (rootOf (first .q));
+  q =
+      cut
+      (pos (r .q)
+      -ℤ loss c (force (first .clock)) (rootOf (first .q)) (first .q) (ground .grade (first .head)) (ground .curvature (first .head)));
+}
 
-abbrev pub Lends : Call → Type 0
-Lends (opening s) = Slice s
-Lends (sampling l) = Slice (l .sample) × Slice (l .profile) × Slice (l .targets) × Slice (l .out)
+unfoldable pub walkAgain : Consist → (ℕ → ℕ) → Ground → Run → ℕ → ℕ → Run → Arrival
+walkAgain c force ground first limit zero r = arrivalBy (tooFast (r .q)) (leb (r .q) limit) (r .head) never
+walkAgain c force ground first limit (suc n) r =
+    let rest : Arrival = walkAgain c force ground first limit n (stepAgain c force ground first r) in
+    arrivalBy (tooFast (r .q)) (leb (r .q) limit) (r .head) rest
 
-abbrev pub LendsEach : List Call → Type 0
-LendsEach [] = Unit {0}
-LendsEach (k ∷ ks) = Lends k × LendsEach ks
+-- where it stops
+unfoldable pub stopAgain : Consist → (ℕ → ℕ) → Ground → ℕ → ℕ → ℕ
+stopAgain c force ground head v = locationOf (walkAgain c force ground (start head v) 0 2048 (start head v))
 
--- what holds of every sample call of every run, by the session before it, what is lent and the reply
-abbrev pub EverySample : Program → (Session → Lent → Reply → Type 0) → Type 0
-EverySample p P =
-    (ks : List Call) (l : Lent) → LendsEach ks → Lends (sampling l) →
-    let x = afterCalls p (p .none) ks in
-    P x l (replyOf p x (sampling l))
+-- of an approach
+abbrev pub stopBy : Approach → ℕ
+stopBy x = stopAgain (x .consist) (force x) (ground x) (x .head) (x .speed)
 
--- ---- "One that refuses everything is caught by demand 1's exact conditions."
+-- ---- a machine that meets its contracts is none of these
 
--- whatever the number
-abbrev pub IsRefused : Reply → Type 0
-IsRefused r = (n : Refusal) × (r .0 .verdict ≡ Refused n)
+module _ {S T : Type 0} (h : Holding S T) (m : Machine S T) where
+  -- what holds of every sample call of every run, by the state before it, what is lent and the reply
+  abbrev pub EverySample : (S → Lent → Reply S T → Type 0) → Type 0
+  EverySample P =
+      (ks : List Call) (l : Lent) → LendsEach ks → Lends (sampling l) →
+      let z = after m (m .none) ks in
+      P z l (call m z (sampling l))
 
-abbrev pub RefusesOpenings : Program → Type 0
-RefusesOpenings p = (ks : List Call) (s : List ℕ) → LendsEach ks → Slice s → IsRefused (replyOf p (afterCalls p (p .none) ks) (opening s))
+  -- refused, whatever the number
+  abbrev pub IsRefused : Reply S T → Type 0
+  IsRefused r = (n : Refusal) × (r .told ≡ h .tell (Refused n))
 
-abbrev pub RefusesSamples : Program → Type 0
-RefusesSamples p = EverySample p (λ x l r. IsRefused r)
+  -- what a decision tells after its mark and time: brake state, penalty, cause and stopping location
+  abbrev pub said : Reply S T → List ℕ
+  said r = drop 4 (take size (r .out))
 
--- ---- "One with a constant answer, and one that leaves session and output untouched, are caught by demand 2"
+  pub record NotUseless : Type 0 where
+    -- "One that refuses everything is caught by demand 1's exact conditions."
+    pub refuses-openings : ((ks : List Call) (s : List ℕ) → LendsEach ks → Slice s → IsRefused (call m (after m (m .none) ks) (opening s))) → ⊥
+    pub refuses-samples : EverySample (λ z l r. IsRefused r) → ⊥
+    -- "One with a constant answer, and one that leaves session and output untouched, are caught by demand 2"
+    pub constant : (b : List ℕ) → EverySample (λ z l r. Accepts h r → said r ≡ b) → ⊥
+    pub session-untouched : EverySample (λ z l r. r .state ≡ z) → ⊥
+    pub output-untouched : EverySample (λ z l r. r .out ≡ l .out) → ⊥
+    -- "One that walks one honest step, or takes one honest sample, and repeats it is caught by the later ones in demand 2.": the stop that is
+    -- decided is that of the repeated step; what is said of an accepted sample is said of the next one again
+    pub repeats-step : EverySample (λ z l r. (d : Decision) → Decides h r d → d .stop ≡ stopBy (approach (h .session z) (sampleIn (l .sample)) (l .profile))) → ⊥
+    pub repeats-sample : EverySample (λ z l r.
+        (l′ : Lent) → Lends (sampling l′) →
+        let r′ = call m (r .state) (sampling l′) in
+        Accepts h r → Accepts h r′ → said r′ ≡ said r) → ⊥
 
--- what a decision tells after its mark and time: brake state, penalty, cause and stopping location
-abbrev pub said : Reply → List ℕ
-said r = drop 4 (take decision.size (r .1))
+-- ---- the repeated step, of what stands in for walk::predict, whose contract, of every input that it asks for, the check reads from the source
 
--- the same in every sample call that it accepts
-abbrev pub Constant : Program → Type 0
-Constant p = (b : List ℕ) × EverySample p (λ x l r. Accepts r → said r ≡ b)
-
-abbrev pub SessionUntouched : Program → Type 0
-SessionUntouched p = EverySample p (λ x l r. r .0 .session ≡ x)
-
-abbrev pub OutputUntouched : Program → Type 0
-OutputUntouched p = EverySample p (λ x l r. r .1 ≡ l .out)
-
--- ---- "One that walks one honest step, or takes one honest sample, and repeats it is caught by the later ones in demand 2."
-
--- the stop that is decided is that of the repeated step
-abbrev pub StepRepeated : Session → Lent → Reply → Type 0
-StepRepeated x l r =
-    let c = x .consist in
-    let m = sampleIn (l .sample) in
-    let k = brakeAfter x m in
-    (d : Decision) → Decides r d → d .stop ≡ stopAgain c (penaltyCurve c (k .a) (k .b)) (layOf (l .profile)) (m .head) (m .speed)
-
-abbrev pub RepeatsStep : Program → Type 0
-RepeatsStep p = EverySample p StepRepeated
-
--- what is said of an accepted sample is said of the next one again
-abbrev pub RepeatsSample : Program → Type 0
-RepeatsSample p =
-    EverySample p (λ x l r.
-    (l′ : Lent) → Lends (sampling l′) →
-    let r′ = replyOf p (r .0 .session) (sampling l′) in
-    Accepts r → Accepts r′ → said r′ ≡ said r)
-
--- the same of what stands in for walk::predict, whose contract, of every input that it asks for, the check reads from the source
 abbrev pub Walker : Type 0
 Walker = Consist → Curve → Track → ℕ → ℕ → List ℕ → Prediction
 
 abbrev pub MeetsPredict : Walker → Type 0
 MeetsPredict w =
     (κs : Lfts 0) (a : ArgsD signature κs) (x : AtExit ended κs) → predict-reads.Pre κs a →
-    predict-reads.Post κs a (w (a .0) (a .1 .0) (a .1 .1 .0) (a .1 .1 .1 .0) (a .1 .1 .1 .1 .0) (a .1 .1 .1 .1 .1 .0)) x
-
--- one meets it
-abbrev pub ourWalker : Walker
-ourWalker c curve track head v speeds = predictOf c (forceAt (c .rated) curve) (groundOf track (c .length)) head v speeds
+    let (c, (curve, (track, (head, (v, (speeds, _)))))) = a in
+    predict-reads.Post κs a (w c curve track head v speeds) x
 
 abbrev pub WalkRepeatsStep : Walker → Type 0
 WalkRepeatsStep w =
     (c : Consist) (curve : Curve) (track : Track) (head v : ℕ) (speeds : List ℕ) → Walkable c curve track head →
-    w c curve track head v speeds .stop ≡ stopAgain c curve track head v
+    w c curve track head v speeds .stop ≡ stopAgain c (forceAt (c .rated) curve) (groundOf track (c .length)) head v
 
--- ---- what meets the contracts is none of these
-
-pub record NotUseless (p : Program) : Type 0 where
-  pub refuses-openings : RefusesOpenings p → ⊥
-  pub refuses-samples : RefusesSamples p → ⊥
-  pub constant : Constant p → ⊥
-  pub session-untouched : SessionUntouched p → ⊥
-  pub output-untouched : OutputUntouched p → ⊥
-  pub repeats-step : RepeatsStep p → ⊥
-  pub repeats-sample : RepeatsSample p → ⊥
-
-pub record UselessRejected : Type 0 where
-  pub program : (p : Program) → Meets p → NotUseless p
-  pub walks : MeetsPredict ourWalker
-  pub walk : (w : Walker) → MeetsPredict w → WalkRepeatsStep w → ⊥
+-- one meets the contract, and none that does repeats the step
+pub record WalkNotUseless : Type 0 where
+  pub meets : MeetsPredict (λ c curve track head v speeds. predictOf c (forceAt (c .rated) curve) (groundOf track (c .length)) head v speeds)
+  pub repeats-step : (w : Walker) → MeetsPredict w → WalkRepeatsStep w → ⊥

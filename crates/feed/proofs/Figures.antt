@@ -9,7 +9,6 @@ pub figures : Figures
 unfolding lastDigits decimal decisionText refusalText counted profileAhead targetsAhead
 figures = record {
   first-line = refl;
-  second-line = refl;
   one-digit = refl;
   two-digits = refl;
   largest = refl;

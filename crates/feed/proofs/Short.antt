@@ -17,9 +17,9 @@ use Rattle.session.specs.declared.Session.{Session}
 use Rattle.session.specs.declared.Answer.{Answer}
 use Rattle.session.specs.Session.{isOpen, refusedWith}
 use Rattle.session.specs.Sample.{sampleCall}
-use Rattle.session.specs.Laws.{SampleExactly, StaysOpen}
+use Rattle.session.specs.Laws.{SampleUnchanged, StaysOpen}
 use Rattle.session.proofs.Calls.{call-before}
-use Rattle.session.proofs.Laws.{sample-exactly, stays-open}
+use Rattle.session.proofs.Laws.{sample-unchanged, stays-open}
 use Rattle.feed.specs.Line.{refusalText, sampleText}
 use Rattle.feed.specs.Output.{linesOf}
 use Rattle.feed.specs.Short.{ShortLast}
@@ -33,12 +33,12 @@ module _ (x : Session) (s p t out : List ℕ) (o : isOpen x ≡ true) where
 
   -- accepted or refused, the session is open afterwards
   still-open : isOpen (sampleCall x s p t out .0 .session) ≡ true
-  unfolding SampleExactly StaysOpen
+  unfolding SampleUnchanged StaysOpen
   still-open = by (sampleCall x s p t out .0 .verdict) refl
     where
       by : (v : Verdict) → sampleCall x s p t out .0 .verdict ≡ v → isOpen (sampleCall x s p t out .0 .session) ≡ true
       by Accepted e = stays-open x s p t out e
-      by (Refused r) e = ap isOpen (sample-exactly x s p t out .kept r e) ∙ o
+      by (Refused r) e = ap isOpen (sample-unchanged x s p t out r e) ∙ o
 
 pub short-last : ShortLast
 unfolding ShortLast linesOf

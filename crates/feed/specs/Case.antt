@@ -3,8 +3,23 @@ use mathlib.Core.Path.{_≡_}
 use mathlib.Core.List.{List, [], _∷_, _++_}
 use Prim.Native.Nat.{ℕ}
 use lib.ListN.{take, set}
-use Rattle.session.specs.Figures.{consist, profile, targets, sample}
 use Rattle.feed.specs.Output.{outputOf}
+
+-- 10 cars, 40 axles, 1,000 tons, 600 ft, 200,000 lb, 30,000 ms, recharge 50, set 9,000, offset 500
+abbrev pub consist : List ℕ
+consist = 5 ∷ 2 ∷ 128 ∷ 125 ∷ 0 ∷ 150 ∷ 0 ∷ 195 ∷ 80 ∷ 7 ∷ 83 ∷ 0 ∷ 202 ∷ 50 ∷ 129 ∷ 244 ∷ []
+
+-- level profile 0 to 40,000
+abbrev pub profile : List ℕ
+profile = 0 ∷ 0 ∷ 0 ∷ 0 ∷ 0 ∷ 0 ∷ 0 ∷ 156 ∷ 64 ∷ 0 ∷ 0 ∷ 0 ∷ []
+
+-- one target 5,531 at speed 0
+abbrev pub targets : List ℕ
+targets = 0 ∷ 21 ∷ 155 ∷ 0 ∷ 0 ∷ []
+
+-- a sample at head 5,000, front and rear 90.0, with its time and the first two bytes of its speed
+abbrev pub sample : ℕ → ℕ → ℕ → List ℕ
+sample time a b = 83 ∷ 0 ∷ 0 ∷ time ∷ 128 ∷ 0 ∷ 19 ∷ 136 ∷ a ∷ b ∷ 0 ∷ 0 ∷ 66 ∷ 180 ∷ 0 ∷ 0 ∷ 66 ∷ 180 ∷ 0 ∷ 0 ∷ []
 
 -- two records of profile, one target
 abbrev pub opening : List ℕ

@@ -1,17 +1,16 @@
 -- Figures of the lines and of the counts, as one statement. Its proof is `figures` of proofs/Figures.antt.
 use mathlib.Core.Path.{_≡_}
-use mathlib.Core.Bool.{true, false}
+use mathlib.Core.Bool.{false}
 use mathlib.Core.List.{[], _∷_}
 use Rattle.refusal.specs.declared.Refusal.the-variants.{BrokenProfile, NoRoom}
 use Rattle.feed.specs.declared.opening.Part.the-variants.{Bytes, Broken}
 use Rattle.feed.specs.Opening.{profileAhead, targetsAhead}
 use Rattle.feed.specs.Line.{decimal, decisionText, refusalText}
-use Rattle.feed.specs.Case.{firstLine, secondLine, crossed}
+use Rattle.feed.specs.Case.{firstLine, crossed}
 
 pub record Figures : Type 0 where
-  -- `0 0 0 0 5000` and `1 0 1 1 5032`, of 01's case
+  -- `0 0 0 0 5000`, of 01's case
   pub first-line : decisionText (record { time = 0; state = 0; penalty = false; cause = 0; stop = 5000 }) ≡ firstLine
-  pub second-line : decisionText (record { time = 1; state = 0; penalty = true; cause = 1; stop = 5032 }) ≡ secondLine
   -- `x 6` and `x 12`
   pub one-digit : refusalText BrokenProfile ≡ crossed 54
   pub two-digits : refusalText NoRoom ≡ 120 ∷ 32 ∷ 49 ∷ 50 ∷ 10 ∷ []

@@ -50,8 +50,8 @@ abbrev pub afterTargets : List ℕ → List ℕ
 afterTargets feed = drop (targetsCountSize + bytesIn (targetsAnnounced feed)) (afterProfile feed)
 
 -- "then samples": 20 bytes each, as many as were begun; the last may be short
-abbrev pub sampleBytes : List ℕ → List (List ℕ)
-sampleBytes feed = let s = afterTargets feed in upTo ((length s + (sample.size - 1)) / sample.size) (part sample.size s)
+abbrev pub samplesIn : List ℕ → List (List ℕ)
+samplesIn feed = let s = afterTargets feed in upTo ((length s + (sample.size - 1)) / sample.size) (part sample.size s)
 
 -- ---- what is printed
 
@@ -79,8 +79,8 @@ printed Accepted (Bytes n) (Bytes m) lines = lines
 -- program.
 unfoldable pub outputOf : List ℕ → List ℕ
 outputOf feed =
-    let opened = openOf noneOpen (consistBytes feed) in
+    let answer = openOf noneOpen (consistBytes feed) in
     let profile = profileTaken (profileAnnounced feed) (profileBytes feed) in
     let targets = targetsTaken (targetsAnnounced feed) (targetsBytes feed) in
-    let lines = linesOf (opened .session) (profileBytes feed) (targetsBytes feed) (sampleBytes feed) in
-    printed (opened .verdict) profile targets lines
+    let lines = linesOf (answer .session) (profileBytes feed) (targetsBytes feed) (samplesIn feed) in
+    printed (answer .verdict) profile targets lines

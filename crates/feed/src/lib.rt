@@ -125,8 +125,8 @@ fn answer_all(input: i32, output: i32, x: Session, p: &[u8], t: &[u8]) {
 
 // Runs a feed: consist, profile, targets, then samples.
 pub fn run(input: i32, output: i32) {
-    let opened = read_consist(input);
-    let verdict = opened.verdict;
+    let answer = read_consist(input);
+    let verdict = answer.verdict;
     if let Verdict::Refused(r) = verdict {
         print_refusal(output, r);
         return;
@@ -141,6 +141,6 @@ pub fn run(input: i32, output: i32) {
         print_refusal(output, Refusal::BrokenTargets);
         return;
     };
-    let session = opened.session;
+    let session = answer.session;
     answer_all(input, output, session, &p[..n], &t[..m]);
 }

@@ -12,6 +12,7 @@ use Rattle.refusal.specs.Steps.{kept}
 use Rattle.refusal.specs.Written.{noRoom, written}
 use Rattle.refusal.specs.declared.Refusal.{Refusal}
 use Rattle.refusal.specs.declared.Refusal.the-variants.{NoSession, NoRoom}
+use Rattle.refusal.specs.declared.Verdict.{Verdict}
 use Rattle.refusal.specs.declared.Verdict.the-variants.{Accepted, Refused}
 use Rattle.refusal.proofs.Order.{accepted, written-accepted}
 use Rattle.refusal.proofs.Steps.{firstOf, in-order}
@@ -21,9 +22,15 @@ use Rattle.consist.specs.Consist as consist
 use Rattle.consist.proofs.Answers as consist-answers
 use Rattle.consist.proofs.Sound as consist-sound
 use Rattle.session.specs.declared.Session.{Session}
+use Rattle.session.specs.declared.Answer.{Answer}
 use Rattle.session.specs.Session.{isOpen}
 use Rattle.session.proofs.Admitted.{opened}
-use Rattle.held.specs.Held.{mark, fieldsAt, consistAt, sessionIn, bytesOf, noRecord, noSession, answer, readRules, readSession, writeRules, writeSession}
+use Rattle.session.proofs.Told.{answer-one}
+use Rattle.held.specs.Held.{mark, fieldsAt, consistAt, sessionIn, bytesOf, noRecord, noSession, answer, readTold, readRules, readSession, writeRules, writeSession}
+
+-- what is told of a reading tells it
+pub read-tells : (x y : Verdict × Session) → readTold x ≡ readTold y → x ≡ y
+read-tells x y h = ap (λ (a : Answer). (a .verdict, a .session)) (answer-one (record { session = x .1; verdict = x .0 }) (record { session = y .1; verdict = y .0 }) h)
 
 -- ---- bytes that are a record
 

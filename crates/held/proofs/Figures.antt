@@ -5,14 +5,14 @@ use Rattle.refusal.specs.Lowest.{lowest}
 use Rattle.record.specs.Record.{wrongLength}
 use Rattle.seal.specs.Seal.{checkWord, sealed, isSealed}
 use Rattle.consist.specs.Consist as consist
-use Rattle.brake.specs.Brake.{isOpened}
+use Rattle.brake.specs.Brake.{isAtOpening}
 use Rattle.brake.specs.Sound as brake
 use Rattle.session.specs.Session.{isOpen}
 use Rattle.held.specs.Held.{sessionIn, bytesOf, noRecord, noSession, readSession}
 use Rattle.held.specs.Figures.{Figures}
 
 pub figures : Figures
-unfolding lies fieldAt wrongLength checkWord sealed isSealed sessionIn bytesOf noRecord noSession readSession lowest isOpen isOpened consist.consistIn consist.bytesOf consist.inRange consist.tooLight consist.isSound brake.isSound
+unfolding lies fieldAt wrongLength checkWord sealed isSealed sessionIn bytesOf noRecord noSession readSession lowest isOpen isAtOpening consist.consistIn consist.bytesOf consist.inRange consist.tooLight consist.isSound brake.isSound
 figures = record {
   written = refl;
   read = refl;

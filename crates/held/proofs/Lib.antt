@@ -1,7 +1,5 @@
 -- Laws of the session's reader and writer.
 pub mod Answers
 pub mod RoundTrip
-pub mod Exactly
 pub mod Damage
 pub mod Figures
-pub mod Unique

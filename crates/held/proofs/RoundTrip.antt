@@ -25,13 +25,13 @@ use Rattle.consist.specs.declared.Consist.{Consist}
 use Rattle.consist.specs.Consist as consist
 use Rattle.consist.proofs.Answers as consist-answers
 use Rattle.consist.proofs.Sound as consist-sound
-use Rattle.brake.specs.State.{stateNumber}
+use Rattle.brake.specs.State.{stateNumber, stateOf}
 use Rattle.brake.proofs.StateNumbers.{number-most}
-use Rattle.brake.proofs.Told.{state-one}
+use Rattle.brake.proofs.Told.{state-back}
 use Rattle.session.specs.declared.Session.{Session}
 use Rattle.session.specs.Session.{isOpen, noneOpen}
 use Rattle.session.proofs.Admitted.{opened}
-use Rattle.held.specs.Held.{mark, widths, fieldsOf, stateOf, fieldsAt, consistAt, ofFields, sessionIn, bytesOf, noRecord, noSession, answer, readSession, writeSession}
+use Rattle.held.specs.Held.{mark, widths, fieldsOf, fieldsAt, consistAt, ofFields, sessionIn, bytesOf, noRecord, noSession, answer, readSession, writeSession}
 use Rattle.held.specs.RoundTrip.{WrittenReadsBack, AcceptedWritesBack, BytesTell}
 use Rattle.held.proofs.Answers.{IsRecord, read-is, read-inv, write-accepted, write-inv}
 
@@ -55,10 +55,7 @@ fits x h =
 
 -- and tell it
 of-fields : (x : Session) → isOpen x ≡ true → ofFields (fieldsOf x) (x .consist) ≡ x
-of-fields x h =
-    let k = x .brake .state in
-    let state : stateOf (stateNumber k) ≡ k = state-one _ k (to-number (stateNumber k) (number-most k)) in
-    rw (state, of-bit (x .brake .sampled), sym (opened x h .opened))
+of-fields x h = rw (state-back (x .brake .state), of-bit (x .brake .sampled), sym (opened x h .opened))
 
 -- ---- the bytes of a session
 

@@ -8,7 +8,6 @@ use lib.Dec.{ltb, eqb}
 use Rattle.bits.specs.Fields.{bit}
 use Rattle.bits.specs.Bytes.{bytesFrom}
 use Rattle.bits.specs.Places.{fieldsFrom}
-use Rattle.refusal.specs.Number.{told}
 use Rattle.refusal.specs.Lowest.{Rule, lowest}
 use Rattle.refusal.specs.Steps.{kept}
 use Rattle.refusal.specs.Written.{noRoom, written}
@@ -20,12 +19,9 @@ use Rattle.record.specs.Record.{wrongLength}
 use Rattle.seal.specs.Seal.{sealed, isSealed}
 use Rattle.consist.specs.declared.Consist.{Consist}
 use Rattle.consist.specs.Consist as consist
-use Rattle.brake.specs.declared.Brake.{Brake}
-use Rattle.brake.specs.declared.State.{State}
-use Rattle.brake.specs.declared.State.the-variants.{Charged, ApplyingService, HoldingService, ApplyingEmergency, HoldingEmergency, Charging}
-use Rattle.brake.specs.State.{stateNumber}
+use Rattle.brake.specs.State.{stateNumber, stateOf}
 use Rattle.session.specs.declared.Session.{Session}
-use Rattle.session.specs.Session.{Told, sessionTold, isOpen, noneOpen}
+use Rattle.session.specs.Session.{Told, answerTold, isOpen, noneOpen}
 
 -- 40 bytes
 abbrev pub size : ℕ
@@ -40,27 +36,13 @@ abbrev pub mark : ℕ
 mark = 0x4254
 
 -- mark, cause, whether a sample was yet accepted, state, hold, A, B, equalization, fall, last front, last rear, last time
-abbrev pub frontOf : Session → List ℕ
-frontOf x = mark ∷ x .cause ∷ bit (x .brake .sampled) ∷ stateNumber (x .brake .state) ∷ x .brake .hold ∷ x .brake .a ∷ []
-
-abbrev pub backOf : Brake → List ℕ
-backOf k = k .b ∷ k .equalization ∷ k .fall ∷ k .«last_front» ∷ k .«last_rear» ∷ k .«last_time» ∷ []
-
 abbrev pub fieldsOf : Session → List ℕ
-fieldsOf x = frontOf x ++ backOf (x .brake)
-
-abbrev pub frontWidths : List ℕ
-frontWidths = 16 ∷ 4 ∷ 1 ∷ 3 ∷ 16 ∷ 16 ∷ []
-
-abbrev pub backWidths : List ℕ
-backWidths = 16 ∷ 16 ∷ 16 ∷ 16 ∷ 16 ∷ 24 ∷ []
+fieldsOf x =
+    let k = x .brake in
+    mark ∷ x .cause ∷ bit (k .sampled) ∷ stateNumber (k .state) ∷ k .hold ∷ k .a ∷ k .b ∷ k .equalization ∷ k .fall ∷ k .«last_front» ∷ k .«last_rear» ∷ k .«last_time» ∷ []
 
 abbrev pub widths : List ℕ
-widths = frontWidths ++ backWidths
-
--- "States: 0 charged, 1 applying service, 2 holding service, 3 applying emergency, 4 holding emergency, 5 charging."
-abbrev pub stateOf : ℕ → State
-stateOf n = getD (Charged ∷ ApplyingService ∷ HoldingService ∷ ApplyingEmergency ∷ HoldingEmergency ∷ []) n Charging
+widths = 16 ∷ 4 ∷ 1 ∷ 3 ∷ 16 ∷ 16 ∷ 16 ∷ 16 ∷ 16 ∷ 16 ∷ 16 ∷ 24 ∷ []
 
 -- the open session of these fields and a consist
 abbrev pub ofFields : List ℕ → Consist → Session
@@ -115,9 +97,9 @@ answer v x = (v, kept v x noneOpen)
 abbrev pub refusedWith : Refusal → Verdict × Session
 refusedWith r = answer (Refused r) noneOpen
 
--- the paper's number and values
+-- the paper's number and values, as of a call's answer
 abbrev pub readTold : Verdict × Session → ℕ × Told
-readTold a = told (a .0, sessionTold (a .1))
+readTold a = answerTold (record { session = a .1; verdict = a .0 })
 
 abbrev pub readRules : List ℕ → List Rule
 readRules s = (noSession s, NoSession) ∷ []

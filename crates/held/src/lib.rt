@@ -1,21 +1,21 @@
 // The record of an open session, 40 bytes, for a customer who keeps the session in bytes from call to call and across a restart.
 use brake::Brake;
-use brake::State;
 use consist::Consist;
 use refusal::Refusal;
 use refusal::Step;
 use refusal::Verdict;
+use session::Answer;
 use session::Session;
 ghost use mathlib.Core.Path.{_≡_};
 ghost use mathlib.Core.Bool.{true};
 ghost use mathlib.Core.List.{_++_};
 ghost use Prim.Native.Nat.{_≤_};
-ghost use lib.ListN.{length, drop};
+ghost use lib.ListN.{length, take, drop};
 ghost use Rattle.bits.specs.Places.{putFrom};
 ghost use Rattle.refusal.specs.Number.{told};
 ghost use Rattle.refusal.specs.declared.Refusal.the-variants.{NoSession};
-ghost use Rattle.session.specs.Session.{isOpen};
-ghost use Rattle.held.specs.Held.{size, frontWidths, backWidths, frontOf, backOf, stateOf, ofFields, fieldsAt, bytesOf, noRecord, refusedWith, readTold, readSession, writeSession};
+ghost use Rattle.session.specs.Session.{isOpen, answerTold};
+ghost use Rattle.held.specs.Held.{size, widths, fieldsOf, ofFields, fieldsAt, bytesOf, noRecord, refusedWith, readTold, readSession, writeSession};
 
 // Bytes of the record.
 pub const SIZE: usize = 40;
@@ -27,33 +27,13 @@ const BODY: usize = OWN + Consist::SIZE;
 
 const MARK: u64 = 0x4254;
 
-// What reading a session answers; where it is refused, the session is the one before any opening.
-pub struct Answer {
-    pub verdict: Verdict,
-    pub session: Session,
-}
-
 fn refused() -> Answer
-    ensures { λ a. ⌜ readTold (a .verdict, a .session) ≡ readTold (refusedWith NoSession) ⌝ }
+    ensures { λ a. ⌜ answerTold a ≡ readTold (refusedWith NoSession) ⌝ }
 {
     let session = session::none();
     Answer {
         verdict: Verdict::Refused(Refusal::NoSession),
         session,
-    }
-}
-
-// The state of a number: past 4, charging.
-fn state_of(n: u64) -> State
-    ensures { λ r. ⌜ r ≡ stateOf n ⌝ }
-{
-    match n {
-        0 => State::Charged,
-        1 => State::ApplyingService,
-        2 => State::HoldingService,
-        3 => State::ApplyingEmergency,
-        4 => State::HoldingEmergency,
-        _ => State::Charging,
     }
 }
 
@@ -71,7 +51,7 @@ fn of_bytes(s: &[u8], c: Consist) -> Session
 {
     let cause = bits::field(s, 16, 4) as u8;
     let sampled = bits::field(s, 20, 1) == 1;
-    let state = state_of(bits::field(s, 21, 3));
+    let state = brake::state_of(bits::field(s, 21, 3));
     let brake = Brake {
         state,
         hold: bits::field(s, 24, 16) as u16,
@@ -92,8 +72,9 @@ fn of_bytes(s: &[u8], c: Consist) -> Session
     }
 }
 
+// The session of a record; where it is refused, the one before any opening.
 pub fn read(s: &[u8]) -> Answer
-    ensures { λ r. ⌜ readTold (r .verdict, r .session) ≡ readTold (readSession (now (s .entry))) ⌝ }
+    ensures { λ r. ⌜ answerTold r ≡ readTold (readSession (now (s .entry))) ⌝ }
 {
     let Step::On = refusal::unless(no_record(s)) else {
         return refused();
@@ -114,9 +95,9 @@ pub fn read(s: &[u8]) -> Answer
     }
 }
 
-// Mark, cause, whether a sample was yet accepted, state, hold and A.
+// The first six fields, to A. The record is put in two parts, each short enough to be put without a loop.
 fn put_front(x: Session, out: &mut [u8])
-    ensures { λ _. ⌜ now (out .exit) ≡ putFrom 0 frontWidths (frontOf x) (now (out .entry)) ⌝ }
+    ensures { λ _. ⌜ now (out .exit) ≡ putFrom 0 (take 6 widths) (take 6 (fieldsOf x)) (now (out .entry)) ⌝ }
 {
     let k = x.brake;
     let state = k.state;
@@ -133,10 +114,11 @@ fn put_front(x: Session, out: &mut [u8])
     bits::put_fields(out, 0, &widths, &values);
 }
 
-// B, equalization, fall, last front, last rear and last time.
-fn put_back(k: Brake, out: &mut [u8])
-    ensures { λ _. ⌜ now (out .exit) ≡ putFrom 56 backWidths (backOf k) (now (out .entry)) ⌝ }
+// The other six.
+fn put_back(x: Session, out: &mut [u8])
+    ensures { λ _. ⌜ now (out .exit) ≡ putFrom 56 (drop 6 widths) (drop 6 (fieldsOf x)) (now (out .entry)) ⌝ }
 {
+    let k = x.brake;
     let widths = [16, 16, 16, 16, 16, 24];
     let values = [
         k.b as u64,
@@ -156,9 +138,8 @@ fn put(x: Session, out: &mut [u8])
     ensures { λ _. ⌜ now (out .exit) ≡ bytesOf x ++ drop size (now (out .entry)) ⌝ }
 {
     let c = x.consist;
-    let k = x.brake;
     put_front(x, out);
-    put_back(k, out);
+    put_back(x, out);
     // not refused: an open session's consist is sound
     consist::write(c, &mut out[OWN..BODY]);
     seal::put_check_word(&mut out[0..SIZE]);

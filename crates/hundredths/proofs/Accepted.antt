@@ -8,10 +8,11 @@ use lib.Ieee.{Float, nan, inf, fin, binary32, isNan, ofBits, toBits}
 use lib.Ieee.Bits.{toBits-ofBits}
 use lib.Ieee.Fits.{down-pos}
 use borrow.Author.Tests.{ltb-false, le-ltb}
+use Rattle.whole.specs.Ceiling.{ceilDiv}
 use Rattle.hundredths.specs.declared.Reading.the-variants.{Hundredths, Refused}
 use Rattle.hundredths.specs.declared.Rounding.{Rounding}
 use Rattle.hundredths.specs.declared.Rounding.the-variants.{Up, Down}
-use Rattle.hundredths.specs.Reading.{num, den, rounded, hundredthsOf, infinite, belowZero, above, isBad, mostSpeed, mostPressure, judged, speedOf, pressureOf}
+use Rattle.hundredths.specs.Reading.{numerator, denominator, rounded, hundredthsOf, infinite, belowZero, aboveLimit, isBad, mostSpeed, mostPsi, judged, speedOf, pressureOf}
 use Rattle.hundredths.proofs.Rounded.{rounded-mono}
 
 -- ---- refused, and accepted
@@ -32,13 +33,13 @@ pub speed-accepted : (x : Float) {n : ℕ} → speedOf x ≡ Hundredths n → (i
 unfolding speedOf
 speed-accepted x e = accepted (isBad mostSpeed x) (hundredthsOf Up x) e
 
-pub pressure-refused : (x : Float) → pressureOf x ≡ Refused → isBad mostPressure x ≡ true
+pub pressure-refused : (x : Float) → pressureOf x ≡ Refused → isBad mostPsi x ≡ true
 unfolding pressureOf
-pressure-refused x = refused (isBad mostPressure x) (hundredthsOf Down x)
+pressure-refused x = refused (isBad mostPsi x) (hundredthsOf Down x)
 
-pub pressure-accepted : (x : Float) {n : ℕ} → pressureOf x ≡ Hundredths n → (isBad mostPressure x ≡ false) × (n ≡ hundredthsOf Down x)
+pub pressure-accepted : (x : Float) {n : ℕ} → pressureOf x ≡ Hundredths n → (isBad mostPsi x ≡ false) × (n ≡ hundredthsOf Down x)
 unfolding pressureOf
-pressure-accepted x e = accepted (isBad mostPressure x) (hundredthsOf Down x) e
+pressure-accepted x e = accepted (isBad mostPsi x) (hundredthsOf Down x) e
 
 -- ---- its bits
 
@@ -58,27 +59,28 @@ neither : (a b : Bool) → (a || b) ≡ false → (a ≡ false) × (b ≡ false)
 neither true b h = absurd (true≢false h)
 neither false b h = (refl, h)
 
-parts : (limit : ℕ) (x : Float) → isBad limit x ≡ false → ((isNan x || infinite x || belowZero x) ≡ false) × (above limit x ≡ false)
+parts : (limit : ℕ) (x : Float) → isBad limit x ≡ false → ((isNan x || infinite x || belowZero x) ≡ false) × (aboveLimit limit x ≡ false)
 unfolding isBad
-parts limit x ok = neither (isNan x || infinite x || belowZero x) (above limit x) ok
+parts limit x ok = neither (isNan x || infinite x || belowZero x) (aboveLimit limit x) ok
 
-pub at-most : (limit : ℕ) (x : Float) → isBad limit x ≡ false → num x ≤ limit * den x
-at-most limit x ok = ltb-false (limit * den x) (num x) (parts limit x ok .1)
+pub at-most : (limit : ℕ) (x : Float) → isBad limit x ≡ false → numerator x ≤ limit * denominator x
+at-most limit x ok = ltb-false (limit * denominator x) (numerator x) (parts limit x ok .1)
 
 -- what is within a limit is within a higher one
 pub wider : (limit higher : ℕ) (x : Float) → limit ≤ higher → isBad limit x ≡ false → isBad higher x ≡ false
 unfolding isBad
 wider limit higher x h ok =
-    simp (parts limit x ok .0, le-ltb (higher * den x) (num x) (le-trans (at-most limit x ok) (mul-le-mul-right (den x) h)))
+    simp (parts limit x ok .0, le-ltb (higher * denominator x) (numerator x) (le-trans (at-most limit x ok) (mul-le-mul-right (denominator x) h)))
 
 -- ---- and its hundredths at most the limit's
 
-pub den-pos : (x : Float) → 0 < den x
-den-pos nan = lit< tt
-den-pos (inf s) = lit< tt
-den-pos (fin s m e) = down-pos e
+pub denominator-pos : (x : Float) → 0 < denominator x
+denominator-pos nan = lit< tt
+denominator-pos (inf s) = lit< tt
+denominator-pos (fin s m e) = down-pos e
 
 whole : (r : Rounding) (q : ℕ) → rounded r q 1 ≡ q
+unfolding ceilDiv
 whole Up q = simp (add-zero, div-one)
 whole Down q = div-one q
 
@@ -86,6 +88,6 @@ pub hundredths-most : (r : Rounding) (limit : ℕ) (x : Float) → isBad limit x
 unfolding hundredthsOf
 hundredths-most r limit x ok =
     le-trans
-    (rounded-mono r (100 * num x) (den x) (100 * limit) 1 (den-pos x) (lit< tt)
-    (le-trans (le-of-eq (mul-one (100 * num x))) (le-trans (mul-le-mul-left 100 (at-most limit x ok)) (le-of-eq (sym (mul-assoc 100 limit (den x)))))))
+    (rounded-mono r (100 * numerator x) (denominator x) (100 * limit) 1 (denominator-pos x) (lit< tt)
+    (le-trans (le-of-eq (mul-one (100 * numerator x))) (le-trans (mul-le-mul-left 100 (at-most limit x ok)) (le-of-eq (sym (mul-assoc 100 limit (denominator x)))))))
     (le-of-eq (whole r (100 * limit)))

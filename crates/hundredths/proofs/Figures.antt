@@ -1,15 +1,14 @@
 -- The figures hold: both sides of each compute to the same. Assumes nothing.
 use mathlib.Core.Path.{refl}
 use lib.Ieee.{isNan, ofBits}
+use Rattle.whole.specs.Ceiling.{ceilDiv}
 use Rattle.hundredths.specs.Reading.{hundredthsOf, isBad, speedOf, pressureOf}
 use Rattle.hundredths.specs.Figures.{Figures}
 
 pub figures : Figures
-unfolding ofBits isNan hundredthsOf isBad speedOf pressureOf
+unfolding ceilDiv ofBits isNan hundredthsOf isBad speedOf pressureOf
 figures =
     record {
-      pressure-69 = refl;
-      speed-70 = refl;
       speed-100 = refl;
       speed-past-100 = refl;
       pressure-160 = refl;

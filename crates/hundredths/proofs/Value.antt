@@ -8,13 +8,13 @@ use lib.Dec.{leb, eqb, lit<}
 use lib.Pow.{pow-add, pow-pos, pow-mono}
 use lib.Ieee.{Float, nan, inf, fin, binary32, isNan, odd, ofFields, ofBits}
 use lib.Ieee.Exact.{HasValue, odd-sign}
-use Rattle.hundredths.specs.Exact.{Exact}
-use Rattle.hundredths.specs.Reading.{num, den, isBad, mostPressure}
-use Rattle.hundredths.proofs.Accepted.{at-most, den-pos}
+use Rattle.hundredths.specs.IsFraction.{IsFraction}
+use Rattle.hundredths.specs.Reading.{numerator, denominator, isBad, mostPsi}
+use Rattle.hundredths.proofs.Accepted.{at-most, denominator-pos}
 
 -- the size of x is q * 2 ^ k / 2 ^ 149
 abbrev Scaled : Float → ℕ → ℕ → Type 0
-Scaled x q k = num x * 2 ^ 149 ≡ q * 2 ^ k * den x
+Scaled x q k = numerator x * 2 ^ 149 ≡ q * 2 ^ k * denominator x
 
 -- q and k by the exponent's field f and the tail t of 23 digits: a field of 0 stands for no leading digit, and counts as 1
 abbrev wholeOf : ℕ → ℕ → ℕ
@@ -44,7 +44,7 @@ fields-scaled limit s (suc f) t ok = go (eqb (suc f) 255) (eqb t 0) ok
     go false none h = odd-scaled s (0x80_0000 + t) f
 
 -- b is a pattern of the accepted reading x
-module _ (b : ℕ) {x : Float} (pattern : ofBits binary32 b ≡ x) (ok : isBad mostPressure x ≡ false) where
+module _ (b : ℕ) {x : Float} (pattern : ofBits binary32 b ≡ x) (ok : isBad mostPsi x ≡ false) where
   abbrev field : ℕ
   field = b % 0x8000_0000 / 0x80_0000
 
@@ -58,34 +58,34 @@ module _ (b : ℕ) {x : Float} (pattern : ofBits binary32 b ≡ x) (ok : isBad m
   unfolding ofBits
   scaled =
       subst (λ (y : Float). Scaled y (wholeOf field tail) (exponentOf field)) pattern
-      (fields-scaled mostPressure (leb 0x8000_0000 b) field tail (subst (λ (y : Float). isBad mostPressure y ≡ false) (sym pattern) ok))
+      (fields-scaled mostPsi (leb 0x8000_0000 b) field tail (subst (λ (y : Float). isBad mostPsi y ≡ false) (sym pattern) ok))
 
   -- a field of 135 is 2 ^ 8 or more
   too-large : (f : ℕ) → 135 ≤ f → By-field f → ⊥
   too-large zero h v = not-le-of-lt (lit< tt) h
   too-large (suc f) h v =
-      not-le-of-lt (lit< {m = mostPressure * 2 ^ 149} {n = 0x80_0000 * 2 ^ 134} tt)
+      not-le-of-lt (lit< {m = mostPsi * 2 ^ 149} {n = 0x80_0000 * 2 ^ 134} tt)
       (le-of-mul-le-mul-right
-      (le-trans (mul-le-mul-right (den x) (mul-le-mul (le-add-right 0x80_0000 tail) (pow-mono {i = 134} {j = f} (le-of-suc-le-suc h))))
+      (le-trans (mul-le-mul-right (denominator x) (mul-le-mul (le-add-right 0x80_0000 tail) (pow-mono {i = 134} {j = f} (le-of-suc-le-suc h))))
       (le-trans (le-of-eq (sym v))
-      (le-trans (mul-le-mul-right (2 ^ 149) (at-most mostPressure x ok)) (le-of-eq (mul-right-comm mostPressure (den x) (2 ^ 149))))))
-      (den-pos x))
+      (le-trans (mul-le-mul-right (2 ^ 149) (at-most mostPsi x ok)) (le-of-eq (mul-right-comm mostPsi (denominator x) (2 ^ 149))))))
+      (denominator-pos x))
 
   pub field-le : field ≤ 134
   field-le = le-of-suc-le-suc (lt-of-not-le (λ (h : 135 ≤ field). too-large field h scaled))
 
   -- the exponent taken into the places
-  placed : (q k places : ℕ) → places + k ≡ 149 → Scaled x q k → num x * 2 ^ places ≡ q * den x
+  placed : (q k places : ℕ) → places + k ≡ 149 → Scaled x q k → numerator x * 2 ^ places ≡ q * denominator x
   placed q k places e v =
-      eq-of-mul-eq-mul-right (2 ^ k) (pow-pos k) (num x * 2 ^ places) (q * den x)
-      (mul-assoc (num x) (2 ^ places) (2 ^ k) ∙ ap (λ (z : ℕ). num x * z) (sym (pow-add 2 places k) ∙ ap (λ (z : ℕ). 2 ^ z) e) ∙ v ∙ mul-right-comm q (2 ^ k) (den x))
+      eq-of-mul-eq-mul-right (2 ^ k) (pow-pos k) (numerator x * 2 ^ places) (q * denominator x)
+      (mul-assoc (numerator x) (2 ^ places) (2 ^ k) ∙ ap (λ (z : ℕ). numerator x * z) (sym (pow-add 2 places k) ∙ ap (λ (z : ℕ). 2 ^ z) e) ∙ v ∙ mul-right-comm q (2 ^ k) (denominator x))
 
-  pub without-field : field ≡ 0 → Exact x (record { digits = tail; places = 149 })
+  pub without-field : field ≡ 0 → IsFraction x (record { digits = tail; places = 149 })
   without-field e = record { value = placed tail 0 149 refl (subst By-field e scaled); small = omega arith }
 
-  pub with-field : (field ≡ 0 → ⊥) → Exact x (record { digits = 0x80_0000 + tail; places = 150 - field })
+  pub with-field : (field ≡ 0 → ⊥) → IsFraction x (record { digits = 0x80_0000 + tail; places = 150 - field })
   with-field some = go field some field-le scaled
     where
-      go : (f : ℕ) → (f ≡ 0 → ⊥) → f ≤ 134 → By-field f → Exact x (record { digits = 0x80_0000 + tail; places = 150 - f })
+      go : (f : ℕ) → (f ≡ 0 → ⊥) → f ≤ 134 → By-field f → IsFraction x (record { digits = 0x80_0000 + tail; places = 150 - f })
       go zero some le v = absurd (some refl)
       go (suc f) some le v = record { value = placed (0x80_0000 + tail) f (150 - suc f) (omega arith) v; small = omega arith }

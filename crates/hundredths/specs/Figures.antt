@@ -13,9 +13,6 @@ abbrev pub pressureAt : ℕ → Reading
 pressureAt bits = pressureOf (ofBits binary32 bits)
 
 pub record Figures : Type 0 where
-  -- P "Bits 3F333333: pressure 69, speed 70."
-  pub pressure-69 : pressureAt 0x3f33_3333 ≡ Hundredths 69
-  pub speed-70 : speedAt 0x3f33_3333 ≡ Hundredths 70
   -- "100.0 mph gives exactly 10,000; the next binary32 up is refused 8."
   pub speed-100 : speedAt 0x42c8_0000 ≡ Hundredths 10000
   pub speed-past-100 : speedAt 0x42c8_0001 ≡ Refused

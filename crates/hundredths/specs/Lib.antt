@@ -1,4 +1,8 @@
 -- Readings in hundredths.
+
+-- the paper's definitions
 pub mod Reading
-pub mod Exact
+-- statements
 pub mod Figures
+-- for an inner contract: what the code takes a float apart into
+pub mod IsFraction

@@ -1,33 +1,34 @@
 -- What a reading is in hundredths, and when it is refused: a quotation is document 01's, over the definition that says it. Definitions only. Assumes nothing.
-use Prim.Native.Nat.{ℕ, _+_, _-_, _*_, _/_}
+use Prim.Native.Nat.{ℕ, _*_, _/_}
 use mathlib.Core.Bool.{Bool, true, false, _&&_, _||_}
 use mathlib.Core.List.{List, [], _∷_}
 use lib.Dec.{ltb}
 use lib.Ieee.{Float, nan, inf, fin, up, down, isNan}
+use Rattle.whole.specs.Ceiling.{ceilDiv}
 use Rattle.hundredths.specs.declared.Reading.{Reading}
 use Rattle.hundredths.specs.declared.Reading.the-variants.{Hundredths, Refused}
 use Rattle.hundredths.specs.declared.Rounding.{Rounding}
 use Rattle.hundredths.specs.declared.Rounding.the-variants.{Up, Down}
 
--- "its exact value": the fraction num x / den x, the sign aside. A finite float `fin s m e` is m * 2 ^ e, negative where s is true, and 2 ^ e is up e / down e.
-abbrev pub num : Float → ℕ
-num nan = 0
-num (inf s) = 0
-num (fin s m e) = m * up e
+-- "its exact value": the fraction numerator x / denominator x, the sign aside. A finite float `fin s m e` is m * 2 ^ e, negative where s is true, and 2 ^ e is up e / down e.
+abbrev pub numerator : Float → ℕ
+numerator nan = 0
+numerator (inf s) = 0
+numerator (fin s m e) = m * up e
 
-abbrev pub den : Float → ℕ
-den nan = 1
-den (inf s) = 1
-den (fin s m e) = down e
+abbrev pub denominator : Float → ℕ
+denominator nan = 1
+denominator (inf s) = 1
+denominator (fin s m e) = down e
 
 -- a / b, "rounded up" or "rounded down"
 abbrev pub rounded : Rounding → ℕ → ℕ → ℕ
-rounded Up a b = (a + (b - 1)) / b
+rounded Up a b = ceilDiv a b
 rounded Down a b = a / b
 
 -- "100 times its exact value"
 unfoldable pub hundredthsOf : Rounding → Float → ℕ
-hundredthsOf rounding x = rounded rounding (100 * num x) (den x)
+hundredthsOf rounding x = rounded rounding (100 * numerator x) (denominator x)
 
 -- "infinite"
 abbrev pub infinite : Float → Bool
@@ -43,22 +44,22 @@ negative (fin s m e) = s
 
 -- "below zero"; "Minus zero is zero."
 abbrev pub belowZero : Float → Bool
-belowZero x = negative x && ltb 0 (num x)
+belowZero x = negative x && ltb 0 (numerator x)
 
 -- "above" a limit
-abbrev pub above : ℕ → Float → Bool
-above limit x = ltb (limit * den x) (num x)
+abbrev pub aboveLimit : ℕ → Float → Bool
+aboveLimit limit x = ltb (limit * denominator x) (numerator x)
 
 -- No. 8: "a present reading is NaN, infinite, below zero," or above its limit
 unfoldable pub isBad : ℕ → Float → Bool
-isBad limit x = isNan x || infinite x || belowZero x || above limit x
+isBad limit x = isNan x || infinite x || belowZero x || aboveLimit limit x
 
 -- "speed above 100 or pressure above 160"
 abbrev pub mostSpeed : ℕ
 mostSpeed = 100
 
-abbrev pub mostPressure : ℕ
-mostPressure = 160
+abbrev pub mostPsi : ℕ
+mostPsi = 160
 
 abbrev pub judged : Bool → ℕ → Reading
 judged true n = Refused
@@ -70,7 +71,7 @@ speedOf x = judged (isBad mostSpeed x) (hundredthsOf Up x)
 
 -- "pressure 100 times its exact value rounded down"
 unfoldable pub pressureOf : Float → Reading
-pressureOf x = judged (isBad mostPressure x) (hundredthsOf Down x)
+pressureOf x = judged (isBad mostPsi x) (hundredthsOf Down x)
 
 -- the paper's number and values of a reading: 0 and its hundredths, or the 8 that it is refused with
 abbrev pub readingTold : Reading → ℕ × List ℕ

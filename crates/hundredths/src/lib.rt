@@ -3,12 +3,12 @@ ghost use mathlib.Core.Path.{_≡_};
 ghost use mathlib.Core.Bool.{false};
 ghost use Prim.Native.Nat.{_/_, _^_};
 ghost use lib.Ieee.{binary32, ofBits, toBits};
-ghost use Rattle.hundredths.specs.Exact.{Exact};
-ghost use Rattle.hundredths.specs.Reading.{rounded, hundredthsOf, isBad, mostPressure, speedOf, pressureOf, readingTold};
+ghost use Rattle.hundredths.specs.IsFraction.{IsFraction};
+ghost use Rattle.hundredths.specs.Reading.{rounded, hundredthsOf, isBad, mostPsi, speedOf, pressureOf, readingTold};
 
 const MOST_SPEED: f32 = 100.0;
 
-const MOST_PRESSURE: f32 = 160.0;
+const MOST_PSI: f32 = 160.0;
 
 // A bit pattern is the sign, the exponent's field of 8 bits, and a tail of 23 digits. This is the sign's weight.
 const SIGN: u32 = 0x8000_0000;
@@ -69,7 +69,7 @@ pub fn speed(x: f32) -> Reading
 pub fn pressure(x: f32) -> Reading
     ensures { λ r. ⌜ readingTold r ≡ readingTold (pressureOf x) ⌝ }
 {
-    if (x >= 0.0) & (x <= MOST_PRESSURE) {
+    if (x >= 0.0) & (x <= MOST_PSI) {
         Reading::Hundredths(hundredths(x, Rounding::Down))
     } else {
         Reading::Refused
@@ -78,7 +78,7 @@ pub fn pressure(x: f32) -> Reading
 
 // The pressure's limit is the higher of the two.
 fn hundredths(x: f32, rounding: Rounding) -> u16
-    requires { ⌜ isBad mostPressure x ≡ false ⌝ }
+    requires { ⌜ isBad mostPsi x ≡ false ⌝ }
     ensures { λ r. ⌜ r ≡ hundredthsOf rounding x ⌝ }
 {
     let value = exact(x);
@@ -87,8 +87,8 @@ fn hundredths(x: f32, rounding: Rounding) -> u16
 
 // The field f counts 2 ^ (f - 150). A field of 0 stands for no leading digit, and counts as 1.
 fn exact(x: f32) -> Fraction
-    requires { ⌜ isBad mostPressure x ≡ false ⌝ }
-    ensures { λ r. ⌜ Exact x r ⌝ }
+    requires { ⌜ isBad mostPsi x ≡ false ⌝ }
+    ensures { λ r. ⌜ IsFraction x r ⌝ }
 {
     let bits = bits_of(x);
     let field = bits % SIGN / LEAD;

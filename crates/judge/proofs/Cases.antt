@@ -5,14 +5,16 @@ use Prim.Native.Nat.{ℕ, _+_}
 use native.Mathlib.Omega.{arith}
 use lib.Dec.{leb, ltb}
 use borrow.Author.Tests.{lt-ltb, le-ltb, leb-true}
-use Rattle.walk.proofs.Reach.{place-at-head}
+use Rattle.record.specs.Location.{noStop}
+use Rattle.walk.specs.Walk.{reach}
+use Rattle.walk.proofs.Reach.{arrival-at-head}
 use Rattle.judge.specs.Judge.{isJudged, offsetFor, isCalled}
 use Rattle.judge.specs.Cases.{NoneIsBeyond, NoOffset, NoFaster}
 use Rattle.judge.proofs.Offsets.{offset-none}
 
 pub none-is-beyond : NoneIsBeyond
 unfolding NoneIsBeyond isCalled
-none-is-beyond offset head v target u h judged = rw (judged, lt-ltb target (16777215 + offsetFor offset v u) (omega arith))
+none-is-beyond offset head v target u h judged = rw (judged, lt-ltb target (noStop + offsetFor offset v u) (omega arith))
 
 pub no-offset : NoOffset
 unfolding NoOffset
@@ -23,11 +25,11 @@ past-head : (head target : ℕ) → isJudged head target && ltb target (head + 0
 unfolding isJudged
 past-head head target = go (leb head target) refl
   where
-    go : (b : Bool) → leb head target ≡ b → b && leb target (head + 32768) && ltb target (head + 0) ≡ false
+    go : (b : Bool) → leb head target ≡ b → b && leb target (head + reach) && ltb target (head + 0) ≡ false
     go true e = rw (le-ltb target (head + 0) (omega (arith, leb-true head target e)), and-false)
     go false e = refl
 
 pub no-faster : NoFaster
 unfolding NoFaster isCalled
 no-faster c force ground offset head v target u slow h =
-    rw (place-at-head c force ground head v u slow h, offset-none offset v u h) (past-head head target)
+    rw (arrival-at-head c force ground head v u slow h, offset-none offset v u h) (past-head head target)

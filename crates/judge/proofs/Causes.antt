@@ -27,9 +27,9 @@ first-most f k (suc n) = go (f k) (first-most f (suc k) n)
     go true h = omega arith
     go false h = omega arith
 
-pub cause-most : (offset head v count : ℕ) (targets speeds places : List ℕ) → causeOf offset head v count targets speeds places ≤ most
+pub cause-most : (offset head v count : ℕ) (targets speeds arrivals : List ℕ) → causeOf offset head v count targets speeds arrivals ≤ most
 unfolding causeOf
-cause-most offset head v count targets speeds places = le-trans (first-most _ 0 (min count most)) (omega arith)
+cause-most offset head v count targets speeds arrivals = le-trans (first-most _ 0 (min count most)) (omega arith)
 
 pub first-some : (f g : ℕ → Bool) → ((k : ℕ) → f k ≡ true → g k ≡ true) → (k n : ℕ) → 0 < firstFrom f k n → 0 < firstFrom g k n
 unfolding firstFrom

@@ -7,8 +7,6 @@ use Rattle.judge.specs.Figures.{Figures}
 pub figures : Figures
 unfolding ceilDiv isJudged offsetFor isCalled firstFrom causeOf
 figures = record {
-  offset-40 = refl;
-  offset-30 = refl;
   behind = refl;
   nearest = refl;
   farthest = refl;

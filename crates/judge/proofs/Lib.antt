@@ -2,6 +2,6 @@
 pub mod Offsets
 pub mod Causes
 pub mod Cases
-pub mod Demand3
+pub mod Compare
 pub mod Figures
 pub mod Unique

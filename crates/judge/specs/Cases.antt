@@ -3,15 +3,16 @@
 use mathlib.Core.Path.{_≡_}
 use mathlib.Core.Bool.{true, false}
 use Prim.Native.Nat.{ℕ, _*_, _≤_}
+use Rattle.record.specs.Location.{farthest}
 use Rattle.consist.specs.declared.Consist.{Consist}
 use Rattle.walk.specs.Step.{Ground}
-use Rattle.walk.specs.Walk.{never, locationOf, placeFor}
+use Rattle.walk.specs.Walk.{never, locationOf, arrivalFor}
 use Rattle.judge.specs.Judge.{isJudged, offsetFor, isCalled}
 
 -- "Without one in 2,048 steps there is none, and it counts as beyond every target", of those whose location is "at most 4,000,000"
 unfoldable pub NoneIsBeyond : Type 0
 NoneIsBeyond =
-    (offset head v target u : ℕ) → target ≤ 4000000 → isJudged head target ≡ true → isCalled offset head v target u (locationOf never) ≡ true
+    (offset head v target u : ℕ) → target ≤ farthest → isJudged head target ≡ true → isCalled offset head v target u (locationOf never) ≡ true
 
 -- "0 where v is not above u"
 unfoldable pub NoOffset : Type 0
@@ -21,4 +22,4 @@ NoOffset = (offset v u : ℕ) → v ≤ u → offsetFor offset v u ≡ 0
 unfoldable pub NoFaster : Type 0
 NoFaster =
     (c : Consist) (force : ℕ → ℕ) (ground : Ground) (offset head v target u : ℕ) → v * v ≤ 1000000000 → v ≤ u →
-    isCalled offset head v target u (locationOf (placeFor c force ground head v u)) ≡ false
+    isCalled offset head v target u (locationOf (arrivalFor c force ground head v u)) ≡ false

@@ -1,23 +1,20 @@
--- Figures of the judgement, as one statement. Its proof is `figures` of proofs/Figures.antt.
+-- Boundaries of the judgement, as one statement. Its proof is `figures` of proofs/Figures.antt.
 use mathlib.Core.Path.{_≡_}
 use mathlib.Core.Bool.{Bool, true, false}
 use mathlib.Core.List.{List, [], _∷_, map}
 use Prim.Native.Nat.{ℕ}
 use lib.ListN.{length}
 use Rattle.walk.specs.Walk.{never, locationOf}
-use Rattle.judge.specs.Judge.{offsetFor, isJudged, isCalled, causeOf}
+use Rattle.judge.specs.Judge.{isJudged, isCalled, causeOf}
 
 -- the train of 01's case: offset 500, head 5,000, 1.0 mph, stopping at 5,032; before targets of speed 0
 abbrev pub calledFor : ℕ → ℕ → Bool
-calledFor target place = isCalled 500 5000 100 target 0 place
+calledFor target arrival = isCalled 500 5000 100 target 0 arrival
 
 abbrev pub causeAmong : List ℕ → ℕ
 causeAmong targets = causeOf 500 5000 100 (length targets) targets (map (λ t. 0) targets) (map (λ t. 5032) targets)
 
 pub record Figures : Type 0 where
-  -- "Offset 500, 40 to 20 mph: 375; 30 to 20: 278"
-  pub offset-40 : offsetFor 500 4000 2000 ≡ 375
-  pub offset-30 : offsetFor 500 3000 2000 ≡ 278
   -- "from head to head plus 32,768, both included"
   pub behind : isJudged 5000 4999 ≡ false
   pub nearest : isJudged 5000 5000 ≡ true

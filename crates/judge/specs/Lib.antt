@@ -1,5 +1,7 @@
--- The judgement of targets, in the order of the paper, and demand 3.
+-- The judgement of targets. The paper's definitions: Judge (the offset, which targets are judged, the call and the cause) and Approach (what a
+-- prediction reads, its locations and its call). Statements: Cases, Compare (behind demand 3) and Figures.
 pub mod Judge
+pub mod Approach
 pub mod Cases
-pub mod Demand3
+pub mod Compare
 pub mod Figures

@@ -25,26 +25,25 @@ use Rattle.session.specs.declared.Session.{Session}
 use Rattle.session.specs.declared.Answer.{Answer}
 use Rattle.session.specs.Session.{isOpen, noneOpen, callTold}
 use Rattle.session.specs.Open.{openedWith, openedBy, openOf}
-use Rattle.session.specs.Sample.{sampleIn, rules, sessionAfter, decisionOf, sampleCall}
+use Rattle.session.specs.Sample.{sampleIn, notOpen, rules, sessionAfter, decisionOf, sampleCall}
 use Rattle.session.specs.Laws.{OpensOpen, StaysOpen}
 use Rattle.held.specs.Held.{size, sessionIn, bytesOf, noSession, answer, readSession, writeSession}
-use Rattle.mount.specs.Mount.{front, openRules, Sampled, callBytes, sampledBy, sampleBytes}
-use Rattle.mount.specs.Laws.{sampleRules}
+use Rattle.mount.specs.Mount.{front, openRules, sampleRules, Sampled, callBytes, sampledBy, sampleBytes}
 use Rattle.session.proofs.Laws.{opens-open, stays-open}
 use Rattle.session.proofs.Told.{call-one}
-use Rattle.held.proofs.Answers.{read-inv, write-is}
+use Rattle.held.proofs.Answers.{held-open, read-inv, write-is}
 
 -- ---- opening
 
 module _ (c : List ℕ) where
-  opened : lowest (readRules c) ≡ Accepted → openOf noneOpen c ≡ record { session = openedWith (consistIn c); verdict = Accepted }
+  open-answers : lowest (readRules c) ≡ Accepted → openOf noneOpen c ≡ record { session = openedWith (consistIn c); verdict = Accepted }
   unfolding openOf readConsist
-  opened h = ap (λ (v : Verdict). openedBy noneOpen (consist.answer v (consistIn c))) h
+  open-answers h = ap (λ (v : Verdict). openedBy noneOpen (consist.answer v (consistIn c))) h
 
   pub opened-open : lowest (readRules c) ≡ Accepted → isOpen (openedWith (consistIn c)) ≡ true
   unfolding OpensOpen
   opened-open h =
-      ap (λ (a : Answer). isOpen (a .session)) (sym (opened h)) ∙ opens-open noneOpen c (ap (λ (a : Answer). a .verdict) (opened h))
+      ap (λ (a : Answer). isOpen (a .session)) (sym (open-answers h)) ∙ opens-open noneOpen c (ap (λ (a : Answer). a .verdict) (open-answers h))
 
   module _ (s : List ℕ) where
     abbrev room : List Rule
@@ -59,7 +58,7 @@ module _ (c : List ℕ) where
     unfolding openOf readConsist
     open-written h =
         let x = openedWith (consistIn c) in
-        ap (λ (y : Answer). writeSession (y .session) s) (opened h)
+        ap (λ (y : Answer). writeSession (y .session) s) (open-answers h)
         ∙ write-is x s false (noRoom size s) (ap not (opened-open h)) refl
         ∙ sym (ap (λ (v : Verdict). written v (bytesOf x) s) (append-passed (readRules c) room h ∙ in-order room tt))
 
@@ -103,17 +102,21 @@ module _ (b s p t out : List ℕ) where
   abbrev by-read : Verdict × Session → Sampled
   by-read r = sampledBy (r .0) (r .1) b s p t out
 
+  -- where an open session's record stands, the first line of the session's own table does not apply: its lowest is that of the bytes
+  pub same-lowest : noSession (front b) ≡ false → lowest (rules x s p t out) ≡ lowest (sampleRules b s p t out)
+  same-lowest e = passed (notOpen x) NoSession _ (ap not (held-open (front b) e .1)) ∙ sym (passed (noSession (front b)) NoSession _ e)
+
   pub by-rules : sampleBytes b s p t out ≡ leaves (lowest (sampleRules b s p t out))
   unfolding sampleBytes sampleCall
   by-rules = by (noSession (front b)) refl
     where
       by : (n : Bool) → noSession (front b) ≡ n → by-read (readSession (front b)) ≡ leaves (lowest (sampleRules b s p t out))
-      by true e = ap by-read (none-held (front b) e) ∙ sym (ap leaves (one-first (noSession (front b)) (rules x s p t out) e))
+      by true e = ap by-read (none-held (front b) e) ∙ sym (ap leaves (one-first (noSession (front b)) _ e))
       by false e =
           let v = lowest (rules x s p t out) in
           ap by-read (one-held (front b) e)
           ∙ ap (λ (w : Verdict × List ℕ). (numberOfVerdict v, w .1, leaves v .2)) (written-kept v x (sessionAfter x (sampleIn s) p t) b)
-          ∙ sym (ap leaves (passed (noSession (front b)) NoSession (rules x s p t out) e))
+          ∙ ap leaves (same-lowest e)
 
   -- step by step: a front that is no session's
   pub sample-unread : {n : ℕ} {r : Refusal} → n ≡ numberOf r → readSession (front b) .0 ≡ Refused r → (n, b, out) ≡ sampleBytes b s p t out

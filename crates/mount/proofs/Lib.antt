@@ -1,6 +1,3 @@
 -- Laws of the calls for C.
 pub mod Told
 pub mod Calls
-pub mod Exactly
-pub mod Laws
-pub mod Unique

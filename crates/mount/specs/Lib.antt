@@ -1,5 +1,3 @@
--- The calls for C.
+-- The calls for C, which are the product's own. Definitions only; what is demanded of them stands in crate demands.
 pub mod Mount
 pub mod Records
-pub mod Exactly
-pub mod Laws

@@ -7,15 +7,15 @@ use lib.ListN.{take}
 use Rattle.refusal.specs.Lowest.{Rule, lowest}
 use Rattle.refusal.specs.Number.{numberOf, numberOfVerdict, told}
 use Rattle.refusal.specs.Written.{noRoom, written}
-use Rattle.refusal.specs.declared.Refusal.the-variants.{NoRoom}
+use Rattle.refusal.specs.declared.Refusal.the-variants.{NoSession, NoRoom}
 use Rattle.refusal.specs.declared.Verdict.{Verdict}
 use Rattle.refusal.specs.declared.Verdict.the-variants.{Accepted, Refused}
 use Rattle.consist.specs.Consist.{consistIn, readRules}
 use Rattle.session.specs.declared.Session.{Session}
 use Rattle.session.specs.declared.Answer.{Answer}
 use Rattle.session.specs.Open.{openedWith}
-use Rattle.session.specs.Sample.{sampleCall}
-use Rattle.held.specs.Held.{size, bytesOf, noSession, readSession}
+use Rattle.session.specs.Sample.{linesOf, sampleCall}
+use Rattle.held.specs.Held.{size, sessionIn, bytesOf, noSession, readSession}
 
 -- the bytes of a record, or all where there are fewer; no call reads or writes one past them
 abbrev pub front : List ℕ → List ℕ
@@ -24,6 +24,11 @@ front session = take size session
 -- "Opening uses 2, 4 and 5"; then 12, for a writer, under what it writes
 abbrev pub openRules : (consist session : List ℕ) → List Rule
 openRules consist session = readRules consist ++ (noRoom size session, NoRoom) ∷ []
+
+-- 1, of the record at the front; then the table's lines of its session
+abbrev pub sampleRules : (session sample profile targets decision : List ℕ) → List Rule
+sampleRules session sample profile targets decision =
+    (noSession (front session), NoSession) ∷ linesOf (sessionIn (front session)) sample profile targets decision
 
 -- the new session's record; "if refused, an earlier session stays as it was"
 unfoldable pub openBytes : (consist session : List ℕ) → ℕ × List ℕ

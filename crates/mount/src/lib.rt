@@ -23,7 +23,7 @@ pub extern "C" fn buongilach_open(session: &mut [u8], consist: &[u8]) -> u8
 }
 
 // The session of the record at the front; a shorter buffer has none.
-fn read_front(session: &[u8]) -> held::Answer
+fn read_front(session: &[u8]) -> session::Answer
     ensures { λ r. ⌜ (r .verdict, r .session) ≡ readSession (front (now (session .entry))) ⌝ }
 {
     if session.len() < held::SIZE {

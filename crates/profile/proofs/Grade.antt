@@ -11,6 +11,7 @@ use mir.Syntax.{w16}
 use mir.Val.{ofZ}
 use borrow.Author.Tests.{lt-ltb, le-ltb, ne-eqb}
 use Rattle.profile.specs.Grade.{gradeOf, gradeBits}
+use Rattle.profile.specs.Profile.{steepest}
 
 pub lower-half : (n : ℕ) → n < 2 ^ 10 → gradeOf n ≡ pos n
 lower-half n h = rw (lt-ltb n (2 ^ 10) h)
@@ -30,25 +31,25 @@ grade-of-bits (pos n) h = lower-half n h
 grade-of-bits (negsuc n) h = upper-half (2 ^ 11 - suc n) (omega arith) (omega arith) ∙ ap negsuc (omega arith)
 
 -- from -500 to 500
-pub both-ends : (z : ℤ) → leZ (negsuc 499) z && leZ z (pos 500) ≡ leb (natAbs z) 500
+pub both-ends : (z : ℤ) → leZ (negsuc 499) z && leZ z (pos 500) ≡ leb (natAbs z) steepest
 both-ends (pos n) = refl
 both-ends (negsuc n) = and-true (leb n 499) ∙ sym (leb·suc-suc n 499)
 
 -- a grade that is in range has eleven bits
-pub in-eleven : (z : ℤ) → natAbs z ≤ 500 → mag z < 2 ^ 10
+pub in-eleven : (z : ℤ) → natAbs z ≤ steepest → mag z < 2 ^ 10
 in-eleven (pos n) h = omega arith
 in-eleven (negsuc n) h = omega arith
 
--- the bits of a grade are the lowest of what is 2 ^ 11 more, which is above zero
-abbrev pub above : ℤ → ℕ
-above (pos n) = n + 2 ^ 11
-above (negsuc n) = 2 ^ 11 - suc n
+-- the bits of a grade are the lowest of what is 2 ^ 11 more, which is raised zero
+abbrev pub raised : ℤ → ℕ
+raised (pos n) = n + 2 ^ 11
+raised (negsuc n) = 2 ^ 11 - suc n
 
-pub lifted : (z : ℤ) → mag z < 2 ^ 10 → z +ℤ pos (2 ^ 11) ≡ pos (above z)
+pub lifted : (z : ℤ) → mag z < 2 ^ 10 → z +ℤ pos (2 ^ 11) ≡ pos (raised z)
 lifted (pos n) h = refl
 lifted (negsuc n) h = rw (le-ltb (2 ^ 11) (suc n) (omega arith))
 
-pub lowest-bits : (z : ℤ) → mag z < 2 ^ 10 → (above z < 2 ^ 12) × (above z % 2 ^ 11 ≡ gradeBits z)
+pub lowest-bits : (z : ℤ) → mag z < 2 ^ 10 → (raised z < 2 ^ 12) × (raised z % 2 ^ 11 ≡ gradeBits z)
 lowest-bits (pos n) h = omega arith
 lowest-bits (negsuc n) h = omega arith
 

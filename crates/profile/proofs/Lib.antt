@@ -2,6 +2,4 @@
 pub mod Grade
 pub mod Sound
 pub mod RoundTrip
-pub mod Exactly
 pub mod Figures
-pub mod Unique

@@ -15,9 +15,9 @@ use Rattle.table.specs.Table as specs
 use Rattle.table.proofs.Records as records
 use Rattle.table.proofs.Records.{Facts}
 use Rattle.table.proofs.Judging as table
-use Rattle.table.proofs.RoundTrip.{written-kept}
+use Rattle.table.proofs.RoundTrip.{written-lawful}
 use Rattle.profile.specs.declared.Segment.{Segment}
-use Rattle.profile.specs.Profile.{fewest, most, widths, fieldsOf, ofFields, spareZero, inRange, ends, segments, counted, count, segmentAt, keptIn, judgeProfile, same, writeProfile}
+use Rattle.profile.specs.Profile.{fewest, most, widths, fieldsOf, ofFields, spareZero, steepest, sharpest, inRange, ends, segments, counted, count, segmentAt, lawfulIn, judgeProfile, same, writeProfile}
 use Rattle.profile.specs.Sound.{Ranged, Sound}
 use Rattle.profile.proofs.Grade.{bits-of-grade, grade-of-bits, in-eleven, lowest-bits}
 
@@ -26,9 +26,9 @@ use Rattle.profile.proofs.Grade.{bits-of-grade, grade-of-bits, in-eleve
 pub ranged : (g : Segment) → inRange g ≡ true → Ranged g
 unfolding inRange
 ranged g h =
-    let a = leb (natAbs (g .grade)) 500 in
-    let b = leb (g .curvature) 2000 in
-    let l = and-true-left (a && b) (leb (g .start) 4000000) h in
+    let a = leb (natAbs (g .grade)) steepest in
+    let b = leb (g .curvature) sharpest in
+    let l = and-true-left (a && b) _ h in
     record { grade = leb-true _ _ (and-true-left a b l); curvature = leb-true _ _ (and-true-right a b l); start = leb-true _ _ (and-true-right (a && b) _ h) }
 
 fits : (g : Segment) → inRange g ≡ true → Fit widths (fieldsOf g)
@@ -73,16 +73,16 @@ lengths starts grades curvatures h =
 -- ---- what is accepted
 
 module _ (p : List ℕ) where
-  pub judge-kept : keptIn p ≡ true → judgeProfile p ≡ (Accepted, count p)
-  judge-kept h = table.judge-is segments p true h
+  pub judge-lawful : lawfulIn p ≡ true → judgeProfile p ≡ (Accepted, count p)
+  judge-lawful h = table.judge-is segments p true h
 
   -- past the last whole record
   pub past-last : (k : ℕ) → count p ≤ k → segmentAt p k ≡ record { start = 0; grade = pos 0; curvature = 0 }
   past-last k h = records.past-last segments p k h
 
   module _ (n : ℕ) (h : judgeProfile p ≡ (Accepted, n)) where
-    pub judged-kept : (keptIn p ≡ true) × (count p ≡ n)
-    judged-kept = table.judged-kept segments p n h
+    pub judged-lawful : (lawfulIn p ≡ true) × (count p ≡ n)
+    judged-lawful = table.judged-lawful segments p n h
 
     pub judged-sound : Sound n (segmentAt p)
     judged-sound =
@@ -93,4 +93,4 @@ module _ (p : List ℕ) where
 pub written-lengths : (starts : List ℕ) (grades : List ℤ) (curvatures out : List ℕ) → writeProfile starts grades curvatures out .0 ≡ Accepted
     → (length grades ≡ length starts) × (length curvatures ≡ length starts)
 written-lengths starts grades curvatures out h =
-    lengths starts grades curvatures (and-true-left (same starts grades curvatures) _ (written-kept segments _ _ _ out h .0))
+    lengths starts grades curvatures (and-true-left (same starts grades curvatures) _ (written-lawful segments _ _ _ out h .0))

@@ -1,7 +1,10 @@
 -- The profile's records.
+
+-- the paper's definitions
 pub mod Grade
 pub mod Profile
-pub mod Sound
+-- statements
 pub mod RoundTrip
-pub mod Exactly
 pub mod Figures
+-- for proofs: what a caller may count on
+pub mod Sound

@@ -5,6 +5,7 @@ use mathlib.Core.Bool.{Bool, _&&_}
 use lib.ListN.{length, getD}
 use lib.Dec.{leb, eqb}
 use lib.IntN.{ℤ, pos, natAbs}
+use Rattle.record.specs.Location.{farthest}
 use Rattle.refusal.specs.Lowest.{Rule}
 use Rattle.refusal.specs.declared.Refusal.the-variants.{BrokenProfile}
 use Rattle.refusal.specs.declared.Verdict.{Verdict}
@@ -43,9 +44,16 @@ ofFields fs = record { start = getD fs 0 0; grade = gradeOf (getD fs 1 0); curva
 abbrev pub spareZero : List ℕ → Bool
 spareZero fs = eqb (getD fs 3 0) 0
 
--- grade (-500 to 500), curvature (0 to 2,000); starts are at most 4,000,000
+-- grade (-500 to 500), curvature (0 to 2,000)
+abbrev pub steepest : ℕ
+steepest = 500
+
+abbrev pub sharpest : ℕ
+sharpest = 2000
+
+-- starts are at most 4,000,000
 unfoldable pub inRange : Segment → Bool
-inRange g = leb (natAbs (g .grade)) 500 && leb (g .curvature) 2000 && leb (g .start) 4000000
+inRange g = leb (natAbs (g .grade)) steepest && leb (g .curvature) sharpest && leb (g .start) farthest
 
 -- the last only ends the profile; its grade and curvature are zero
 unfoldable pub ends : Segment → Bool
@@ -82,8 +90,8 @@ segmentAt = table.recordAt segments
 abbrev pub spareZeroAt : List ℕ → ℕ → Bool
 spareZeroAt = table.cleanAt segments
 
-abbrev pub keptIn : List ℕ → Bool
-keptIn = table.keptIn segments
+abbrev pub lawfulIn : List ℕ → Bool
+lawfulIn = table.lawfulIn segments
 
 abbrev pub brokenIn : List ℕ → Bool
 brokenIn = table.brokenIn segments
@@ -109,8 +117,8 @@ bytesOf = table.bytesOf segments
 abbrev pub same : List ℕ → List ℤ → List ℕ → Bool
 same starts grades curvatures = eqb (length grades) (length starts) && eqb (length curvatures) (length starts)
 
-abbrev pub keptOf : List ℕ → List ℤ → List ℕ → Bool
-keptOf starts grades curvatures = table.keptOf segments (same starts grades curvatures) (length starts) (segmentOf starts grades curvatures)
+abbrev pub lawfulOf : List ℕ → List ℤ → List ℕ → Bool
+lawfulOf starts grades curvatures = table.lawfulOf segments (same starts grades curvatures) (length starts) (segmentOf starts grades curvatures)
 
 abbrev pub writeRules : List ℕ → List ℤ → List ℕ → List ℕ → List Rule
 writeRules starts grades curvatures = table.writeRules segments (same starts grades curvatures) (length starts) (segmentOf starts grades curvatures)

@@ -2,14 +2,15 @@
 use mathlib.Core.Path.{_≡_}
 use Prim.Native.Nat.{ℕ, _-_, _≤_, _<_}
 use lib.IntN.{pos, natAbs}
+use Rattle.record.specs.Location.{farthest}
 use Rattle.profile.specs.declared.Segment.{Segment}
 use Rattle.profile.specs.Profile as profile
 
 -- a segment in range
 pub record Ranged (g : Segment) : Type 0 where
-  pub grade : natAbs (g .grade) ≤ 500
-  pub curvature : g .curvature ≤ 2000
-  pub start : g .start ≤ 4000000
+  pub grade : natAbs (g .grade) ≤ profile.steepest
+  pub curvature : g .curvature ≤ profile.sharpest
+  pub start : g .start ≤ farthest
 
 -- n records
 pub record Sound (n : ℕ) (f : ℕ → Segment) : Type 0 where

@@ -11,7 +11,7 @@ ghost use lib.Dec.{eqb, ltb};
 ghost use Rattle.bits.specs.Places.{putFrom};
 ghost use Rattle.refusal.specs.Number.{told};
 ghost use Rattle.profile.specs.Grade.{gradeOf, gradeBits};
-ghost use Rattle.profile.specs.Profile.{widths, fieldsOf, inRange, ends, segmentAt, spareZeroAt, broken, judgeProfile, segmentOf, keptOf, writeProfile};
+ghost use Rattle.profile.specs.Profile.{widths, fieldsOf, inRange, ends, segmentAt, spareZeroAt, broken, judgeProfile, segmentOf, lawfulOf, writeProfile};
 
 // The track from a record's start to the next one's.
 pub struct Segment {
@@ -31,8 +31,6 @@ impl Segment {
 
     pub const MOST: usize = 257;
 
-    // The greatest start.
-    pub const FARTHEST: u32 = 4_000_000;
     // The least and the greatest grade.
     pub const STEEPEST_DOWN: i16 = -500;
 
@@ -85,7 +83,7 @@ fn good_after(g: Segment, k: usize, before: u32) -> bool
     (Segment::STEEPEST_DOWN <= g.grade)
         & (g.grade <= Segment::STEEPEST_UP)
         & (g.curvature <= Segment::SHARPEST)
-        & (g.start <= Segment::FARTHEST)
+        & (g.start <= record::FARTHEST)
         & ((k == 0) | (before < g.start))
 }
 
@@ -144,7 +142,7 @@ fn row_at(starts: &[u32], grades: &[i16], curvatures: &[u16], k: usize) -> Segme
 
 // Whether three lists keep every rule of a profile.
 fn rows_keep(starts: &[u32], grades: &[i16], curvatures: &[u16]) -> bool
-    ensures { λ r. ⌜ r ≡ keptOf (now (starts .entry)) (now (grades .entry)) (now (curvatures .entry)) ⌝ }
+    ensures { λ r. ⌜ r ≡ lawfulOf (now (starts .entry)) (now (grades .entry)) (now (curvatures .entry)) ⌝ }
 {
     let rows = starts.len();
     if !((grades.len() == rows)

@@ -11,7 +11,7 @@ use Rattle.refusal.specs.declared.Verdict.the-variants.{Accepted, Refuse
 use Rattle.refusal.specs.Number.{numberOf}
 use Rattle.refusal.specs.Lowest.{Rule, lowest}
 use Rattle.refusal.specs.Steps.{stepOf}
-use Rattle.refusal.proofs.Order.{T-left, T-right, above, given, passed}
+use Rattle.refusal.proofs.Order.{T-left, T-right, allAbove, given, passed}
 
 pub on-unless : (b : Bool) → On ≡ stepOf b → b ≡ false
 on-unless true h = absurd (let z : _≡_ {A = ℕ} 0 1 = cc in omega arith)
@@ -29,13 +29,13 @@ firstOf (rule ∷ rules) = cond (rule .0) (Refused (rule .1)) (firstOf rules)
 -- the numbers rise: computed from the refusals alone, so `tt` shows it of a list that is written out
 abbrev pub rising : List Rule → Bool
 rising [] = true
-rising (rule ∷ rules) = above (numberOf (rule .1)) rules && rising rules
+rising (rule ∷ rules) = allAbove (numberOf (rule .1)) rules && rising rules
 
 pub in-order : (rules : List Rule) → T (rising rules) → lowest rules ≡ firstOf rules
 unfolding lowest
 in-order [] t = refl
-in-order (rule ∷ rules) t = by (rule .0) refl (in-order rules (T-right (above (numberOf (rule .1)) rules) (rising rules) t))
+in-order (rule ∷ rules) t = by (rule .0) refl (in-order rules (T-right (allAbove (numberOf (rule .1)) rules) (rising rules) t))
   where
     by : (b : Bool) → rule .0 ≡ b → lowest rules ≡ firstOf rules → lowest (rule ∷ rules) ≡ cond (rule .0) (Refused (rule .1)) (firstOf rules)
-    by true e r = given (rule .0) (rule .1) rules (T-left (above (numberOf (rule .1)) rules) (rising rules) t) e ∙ rw e
+    by true e r = given (rule .0) (rule .1) rules (T-left (allAbove (numberOf (rule .1)) rules) (rising rules) t) e ∙ rw e
     by false e r = passed (rule .0) (rule .1) rules e ∙ r ∙ rw e

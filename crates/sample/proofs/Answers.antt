@@ -10,7 +10,7 @@ use Rattle.bits.specs.Fields.{Fit}
 use Rattle.bits.specs.Bytes.{num, fieldsIn}
 use Rattle.bits.proofs.Fields.{split-fit}
 use Rattle.bits.proofs.Ranges.{neither}
-use Rattle.hundredths.specs.Reading.{isBad, mostSpeed, mostPressure}
+use Rattle.hundredths.specs.Reading.{isBad, mostSpeed, mostPsi}
 use Rattle.record.specs.Record.{wrongLength}
 use Rattle.refusal.specs.Lowest.{lowest}
 use Rattle.refusal.specs.Written.{noRoom, written}
@@ -54,11 +54,11 @@ laid-narrow s =
     simp (lt-leb _ _ (f .1 .0), lt-leb _ _ (f .1 .1 .1 .1 .0))
 
 pub each-good : (raw : RawSample) → badReading raw ≡ false
-    → (isBad mostSpeed (raw .speed) ≡ false) × (isBad mostPressure (raw .front) ≡ false) × (badRear (raw .rear) ≡ false)
+    → (isBad mostSpeed (raw .speed) ≡ false) × (isBad mostPsi (raw .front) ≡ false) × (badRear (raw .rear) ≡ false)
 unfolding badReading
 each-good raw h =
-    let n = neither (isBad mostSpeed (raw .speed) || isBad mostPressure (raw .front)) (badRear (raw .rear)) h in
-    let m = neither (isBad mostSpeed (raw .speed)) (isBad mostPressure (raw .front)) (n .0) in
+    let n = neither (isBad mostSpeed (raw .speed) || isBad mostPsi (raw .front)) (badRear (raw .rear)) h in
+    let m = neither (isBad mostSpeed (raw .speed)) (isBad mostPsi (raw .front)) (n .0) in
     (m .0, m .1, n .1)
 
 -- ---- the rules in order

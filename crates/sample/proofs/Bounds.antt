@@ -1,7 +1,7 @@
 -- A judged sample's fields are within their bounds. Assumes nothing.
 use mathlib.Core.Path.{_≡_, sym, ap, subst, _∙_}
 use mathlib.Core.Bool.{false}
-use Rattle.hundredths.specs.Reading.{mostSpeed, mostPressure}
+use Rattle.hundredths.specs.Reading.{mostSpeed, mostPsi}
 use Rattle.hundredths.specs.declared.Rounding.the-variants.{Up, Down}
 use Rattle.hundredths.proofs.Accepted.{hundredths-most}
 use Rattle.sample.specs.declared.Rear.{Rear}
@@ -12,7 +12,7 @@ use Rattle.sample.specs.Bounds.{RearBounded, Bounded, JudgedBounded}
 use Rattle.sample.proofs.Answers.{narrow, each-good, laid-narrow, laid-out, judged-accepted}
 
 rear-bounded : (r : Rear) → badRear r ≡ false → RearBounded (rearInHundredths r)
-rear-bounded (Present x) h = hundredths-most Down mostPressure x h
+rear-bounded (Present x) h = hundredths-most Down mostPsi x h
 rear-bounded Lost h = tt
 
 bounded : (raw : RawSample) → tooWide raw ≡ false → badReading raw ≡ false → Bounded (sampleOf raw)
@@ -23,7 +23,7 @@ bounded raw w b =
       time = n .0;
       head = n .1;
       speed = hundredths-most Up mostSpeed (raw .speed) (g .0);
-      front = hundredths-most Down mostPressure (raw .front) (g .1);
+      front = hundredths-most Down mostPsi (raw .front) (g .1);
       rear = rear-bounded (raw .rear) (g .2);
     }
 

@@ -1,6 +1,7 @@
 -- The sample's figures, computed. Assumes nothing.
 use mathlib.Core.Path.{refl}
 use lib.Ieee.{isNan, ofBits, toBits}
+use Rattle.whole.specs.Ceiling.{ceilDiv}
 use Rattle.hundredths.specs.Reading.{hundredthsOf, isBad}
 use Rattle.refusal.specs.Lowest.{lowest}
 use Rattle.record.specs.Record.{wrongLength}
@@ -8,7 +9,7 @@ use Rattle.sample.specs.Sample.{rawIn, bytesOf, wrongMark, badReading, l
 use Rattle.sample.specs.Figures.{Figures}
 
 pub figures : Figures
-unfolding rawIn bytesOf wrongLength wrongMark badReading layOut judgeSample readSample lowest hundredthsOf isBad toBits ofBits isNan
+unfolding rawIn bytesOf wrongLength wrongMark badReading layOut judgeSample readSample lowest ceilDiv hundredthsOf isBad toBits ofBits isNan
 figures = record {
   written = refl;
   read = refl;

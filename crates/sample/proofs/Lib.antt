@@ -2,7 +2,5 @@
 pub mod Told
 pub mod Answers
 pub mod RoundTrip
-pub mod Exactly
 pub mod Bounds
 pub mod Figures
-pub mod Unique

@@ -14,7 +14,7 @@ use Rattle.bits.specs.Bytes.{num, bytesFrom}
 use Rattle.bits.proofs.Fields.{split-fit}
 use Rattle.bits.proofs.Bytes.{fields-of-bytes, bytes-of-fields}
 use Rattle.bits.proofs.Ranges.{neither}
-use Rattle.hundredths.specs.Reading.{mostSpeed, mostPressure}
+use Rattle.hundredths.specs.Reading.{mostSpeed, mostPsi}
 use Rattle.hundredths.proofs.Accepted.{bits-back}
 use Rattle.record.specs.Record.{wrongLength}
 use Rattle.refusal.specs.Lowest.{lowest}
@@ -73,7 +73,7 @@ same-rear p r hp hr m g = go (eqb p 0) refl m g
   where
     go : (b : Bool) → eqb p 0 ≡ b → (b && not (eqb r 0)) ≡ false → badRear (rearOf b r) ≡ false → (presentBit (rearOf b r) ≡ p) × (rearBits (rearOf b r) ≡ r)
     go true e m g = (sym (eqb-true p 0 e), sym (eqb-true r 0 (not-false (eqb r 0) m)))
-    go false e m g = let n = eqb-false p 0 e in (omega arith, bits-back mostPressure r hr g)
+    go false e m g = let n = eqb-false p 0 e in (omega arith, bits-back mostPsi r hr g)
 
 -- the fields of a number that has the mark and good readings
 same-fields : (n : ℕ) → wrongMark (split widths n) ≡ false → badReading (ofFields (split widths n)) ≡ false
@@ -88,7 +88,7 @@ same-fields n w b =
     let em = eqb-true (getD fs 0 0) mark (not-false (eqb (getD fs 0 0) mark) (l .0)) in
     let ez = eqb-true (getD fs 3 0) 0 (not-false (eqb (getD fs 3 0) 0) (l .1)) in
     let es = bits-back mostSpeed (getD fs 5 0) (k .1 .1 .1 .1 .1 .0) (g .0) in
-    let ef = bits-back mostPressure (getD fs 6 0) (k .1 .1 .1 .1 .1 .1 .0) (g .1) in
+    let ef = bits-back mostPsi (getD fs 6 0) (k .1 .1 .1 .1 .1 .1 .0) (g .1) in
     let r = same-rear (getD fs 2 0) (getD fs 7 0) (k .1 .1 .0) (k .1 .1 .1 .1 .1 .1 .1 .0) (m .1) (g .2) in
     λ i. sym em i ∷ getD fs 1 0 ∷ r .0 i ∷ sym ez i ∷ getD fs 4 0 ∷ es i ∷ ef i ∷ r .1 i ∷ []
 

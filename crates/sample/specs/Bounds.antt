@@ -2,7 +2,7 @@
 use mathlib.Core.Path.{_≡_}
 use mathlib.Core.List.{List}
 use Prim.Native.Nat.{ℕ, _*_, _^_, _≤_, _<_}
-use Rattle.hundredths.specs.Reading.{mostSpeed, mostPressure}
+use Rattle.hundredths.specs.Reading.{mostSpeed, mostPsi}
 use Rattle.refusal.specs.declared.Verdict.the-variants.{Accepted}
 use Rattle.sample.specs.declared.RawSample.{RawSample}
 use Rattle.sample.specs.declared.RearPressure.{RearPressure}
@@ -11,14 +11,14 @@ use Rattle.sample.specs.declared.Sample.{Sample}
 use Rattle.sample.specs.Sample.{layOut, judgeSample}
 
 abbrev pub RearBounded : RearPressure → Type 0
-RearBounded (Present p) = p ≤ 100 * mostPressure
+RearBounded (Present p) = p ≤ 100 * mostPsi
 RearBounded Lost = Unit
 
 pub record Bounded (x : Sample) : Type 0 where
   pub time : x .time < 2 ^ 24
   pub head : x .head < 2 ^ 24
   pub speed : x .speed ≤ 100 * mostSpeed
-  pub front : x .front ≤ 100 * mostPressure
+  pub front : x .front ≤ 100 * mostPsi
   pub rear : RearBounded (x .rear)
 
 unfoldable pub JudgedBounded : Type 0

@@ -6,7 +6,7 @@ use lib.ListN.{getD}
 use lib.Dec.{leb, eqb}
 use lib.Ieee.{Float, binary32, ofBits, toBits}
 use Rattle.bits.specs.Bytes.{fieldsIn, bytesFrom}
-use Rattle.hundredths.specs.Reading.{hundredthsOf, isBad, mostSpeed, mostPressure}
+use Rattle.hundredths.specs.Reading.{hundredthsOf, isBad, mostSpeed, mostPsi}
 use Rattle.hundredths.specs.declared.Rounding.the-variants.{Up, Down}
 use Rattle.record.specs.Record.{wrongLength}
 use Rattle.refusal.specs.Lowest.{Rule, lowest}
@@ -113,11 +113,11 @@ tooWide raw = leb (2 ^ 24) (raw .time) || leb (2 ^ 24) (raw .head)
 
 -- 8: a present reading is NaN, infinite, below zero, speed above 100 or pressure above 160
 abbrev pub badRear : Rear → Bool
-badRear (Present x) = isBad mostPressure x
+badRear (Present x) = isBad mostPsi x
 badRear Lost = false
 
 unfoldable pub badReading : RawSample → Bool
-badReading raw = isBad mostSpeed (raw .speed) || isBad mostPressure (raw .front) || badRear (raw .rear)
+badReading raw = isBad mostSpeed (raw .speed) || isBad mostPsi (raw .front) || badRear (raw .rear)
 
 -- ---- the layout alone
 

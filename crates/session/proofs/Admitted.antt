@@ -1,18 +1,17 @@
 -- What is known of an admitted sample: the walk can be made, and its decision is in range. Assumes nothing.
 use mathlib.Core.Path.{_≡_, refl, sym, ap, _∙_}
 use mathlib.Core.Bool.{Bool, true, false, _&&_, _||_, not, cond, Bool·beq, true≢false}
-use mathlib.Core.List.{List, [], _∷_, _++_}
+use mathlib.Core.List.{List, [], _∷_}
 use Prim.Native.Nat.{ℕ, _+_, _-_, _^_, _≤_}
 use native.Mathlib.Omega.{arith}
 use lib.Dec.{leb, ltb, eqb}
 use borrow.Author.Tests.{not-false, ltb-false, leb-true, eqb-true, le-leb, lt-leb, le-ltb}
 use Rattle.bits.proofs.Ranges.{and-true-left, and-true-right, neither}
-use Rattle.refusal.specs.Lowest.{lowest}
+use Rattle.refusal.specs.Lowest.{Rule, lowest}
 use Rattle.refusal.specs.declared.Refusal.{Refusal}
-use Rattle.refusal.specs.declared.Refusal.the-variants.{WrongTime, NotCovered}
 use Rattle.refusal.specs.declared.Verdict.{Verdict}
 use Rattle.refusal.specs.declared.Verdict.the-variants.{Accepted, Refused}
-use Rattle.refusal.proofs.Order.{accepted, append-accepted}
+use Rattle.refusal.proofs.Order.{accepted, passed, last-passed}
 use Rattle.consist.specs.Consist as consist
 use Rattle.consist.specs.Sound as sound
 use Rattle.consist.proofs.Sound as consist-sound
@@ -25,21 +24,31 @@ use Rattle.sample.specs.Bounds.{Bounded, JudgedBounded}
 use Rattle.sample.proofs.Bounds.{judged-bounded}
 use Rattle.decision.specs.Decision as decision
 use Rattle.brake.specs.State.{stateNumber}
-use Rattle.brake.specs.Brake.{isOpened, opened as at-opening}
+use Rattle.brake.specs.Brake.{atOpening, isAtOpening}
 use Rattle.brake.specs.Sound as brake
 use Rattle.brake.proofs.Tested as brake-tested
 use Rattle.brake.proofs.StateNumbers.{number-most}
 use Rattle.track.proofs.Accepted.{lay-gentle}
-use Rattle.track.specs.Track.{layOf}
-use Rattle.walk.specs.Curve.{forceAt, penaltyCurve}
-use Rattle.walk.specs.Step.{groundOf}
-use Rattle.walk.specs.Walk.{Place, at, never, fast, locationOf, placeFor, predictOf}
-use Rattle.walk.proofs.Reach.{NoFurther, place-no-further}
+use Rattle.record.specs.Location.{farthest, noStop}
+use Rattle.walk.specs.Walk.{Arrival, at, never, fast, reach, locationOf, predictOf}
+use Rattle.walk.proofs.Reach.{NoFurther, arrival-no-further}
+use Rattle.judge.specs.Approach.{force, ground, arrivalOf, predictionOf, callOf}
 use Rattle.judge.proofs.Causes.{cause-most}
 use Rattle.session.specs.declared.Session.{Session}
 use Rattle.session.specs.Session.{isFresh, isOpen}
-use Rattle.session.specs.Sample.{sampleIn, wrongTime, notCovered, lastStart, predictionOf, prediction, calledOf, causeAfter, brakeAfter, decisionOf}
-use Rattle.session.specs.Steps.{rulesRaw, rulesBefore, admitOf, Ready}
+use Rattle.session.specs.Table.{lastStart, notCovered}
+use Rattle.session.specs.Sample.{sampleIn, approach, prediction, calledOf, causeAfter, brakeAfter, decisionOf}
+use Rattle.session.specs.Steps.{rulesBefore, admitOf, Ready}
+
+-- ---- no rule holds where nothing is refused
+
+abbrev pub NoneHolds : List Rule → Type 0
+NoneHolds [] = Unit {0}
+NoneHolds (rule ∷ rules) = (rule .0 ≡ false) × NoneHolds rules
+
+pub none-holds : (rules : List Rule) → lowest rules ≡ Accepted → NoneHolds rules
+none-holds [] h = tt
+none-holds (rule ∷ rules) h = let a = accepted (rule .0) (rule .1) rules h in (a .0, none-holds rules (a .1))
 
 -- ---- what an admission tells
 
@@ -62,7 +71,7 @@ pub record Opened (x : Session) : Type 0 where
   pub consist : sound.Sound (x .consist)
   pub brake : brake.Sound (x .consist) (x .brake)
   pub cause : x .cause ≤ targets.most
-  pub fresh : x .brake .sampled ≡ false → (x .brake ≡ at-opening (x .consist)) × (x .cause ≡ 0)
+  pub fresh : x .brake .sampled ≡ false → (x .brake ≡ atOpening (x .consist)) × (x .cause ≡ 0)
 
 -- one of two
 other : (a b : Bool) → a || b ≡ true → a ≡ false → b ≡ true
@@ -91,17 +100,17 @@ opened x h =
       cause = leb-true (x .cause) targets.most cause;
       fresh = λ e.
           let f = other (k .sampled) (isFresh x) fresh e in
-          (brake-tested.is-opened c k (and-true-left (isOpened c k) _ f) e, eqb-true (x .cause) 0 (and-true-right (isOpened c k) _ f));
+          (brake-tested.is-at-opening c k (and-true-left (isAtOpening c k) _ f) e, eqb-true (x .cause) 0 (and-true-right (isAtOpening c k) _ f));
     }
 
 -- ---- the decision's fields
 
 pub cause-within : (x : Session) (m : Sample) (p t : List ℕ) → x .cause ≤ targets.most → causeAfter x m p t ≤ targets.most
-unfolding causeAfter calledOf
+unfolding causeAfter callOf
 cause-within x m p t h = go (eqb (x .cause) 0)
   where
     go : (b : Bool) → cond b (calledOf x m p t) (x .cause) ≤ targets.most
-    go true = cause-most (x .consist .offset) (m .head) (m .speed) (targets.count t) (targets.locationsIn t targets.most) (targets.speedsIn t targets.most) (prediction x m p t .places)
+    go true = cause-most (x .consist .offset) (m .head) (m .speed) (targets.count t) (targets.locationsIn t targets.most) (targets.speedsIn t targets.most) (prediction x m p t .arrivals)
     go false = h
 
 never-at-odds : (cause : ℕ) → not (Bool·beq (not (eqb cause 0)) (not (eqb cause 0))) ≡ false
@@ -112,70 +121,56 @@ never-at-odds cause = go (not (eqb cause 0))
     go false = refl
 
 -- a location of the walk is one that a decision may have
-right-location : (y : Place) → NoFurther decision.farthest y → not (leb (locationOf y) decision.farthest || eqb (locationOf y) decision.noStop) ≡ false
-right-location (at h) w = ap (λ (b : Bool). not (b || eqb h decision.noStop)) (le-leb h decision.farthest w)
+right-location : (y : Arrival) → NoFurther farthest y → not (leb (locationOf y) farthest || eqb (locationOf y) noStop) ≡ false
+right-location (at h) w = ap (λ (b : Bool). not (b || eqb h noStop)) (le-leb h farthest w)
 right-location never w = refl
 right-location fast w = refl
 
-right-stop : (x : Session) (m : Sample) (p t : List ℕ) → m .head + 32768 ≤ 4000000
+right-stop : (x : Session) (m : Sample) (p t : List ℕ) → m .head + reach ≤ farthest
     → not (decision.rightStop (decisionOf x m p t)) ≡ false
-unfolding predictionOf predictOf
+unfolding arrivalOf predictionOf predictOf
 right-stop x m p t h =
-    let c = x .consist in
-    let k = brakeAfter x m in
-    let force = forceAt (c .rated) (penaltyCurve c (k .a) (k .b)) in
-    let ground = groundOf (layOf p) (c .length) in
-    right-location (placeFor c force ground (m .head) (m .speed) 0) (place-no-further c force ground (m .head) (m .speed) 0 4000000 h)
+    let y = approach x m p in
+    right-location (arrivalOf y 0) (arrival-no-further (x .consist) (force y) (ground y) (m .head) (m .speed) 0 farthest h)
 
 -- ---- nothing is refused before the walk
 
 module _ (x : Session) (s p t : List ℕ) (h : lowest (rulesBefore x s p t) ≡ Accepted) where
+  -- no condition from 1 to 10 holds
+  clear : NoneHolds (rulesBefore x s p t)
+  clear = none-holds (rulesBefore x s p t) h
+
   pub is-opened : Opened x
-  is-opened = opened x (not-false (isOpen x) (accepted _ _ _ h .0))
-
-  -- what is left after 1, after 2, and so on
-  after-1 : lowest (sample.layoutRules s ++ rulesRaw x (sample.rawIn s) p t) ≡ Accepted
-  after-1 = accepted _ _ _ h .1
-
-  after-3 : lowest (rulesRaw x (sample.rawIn s) p t) ≡ Accepted
-  after-3 = accepted _ _ _ (accepted _ _ _ after-1 .1) .1
-
-  after-7 : lowest (sample.judgeRules (sample.rawIn s) ++ (wrongTime x (sampleIn s), WrongTime) ∷ (notCovered (x .consist) p (sampleIn s), NotCovered) ∷ []) ≡ Accepted
-  after-7 = accepted _ _ _ (accepted _ _ _ after-3 .1) .1
-
-  after-8 : lowest ((wrongTime x (sampleIn s), WrongTime) ∷ (notCovered (x .consist) p (sampleIn s), NotCovered) ∷ []) ≡ Accepted
-  after-8 = accepted _ _ _ after-7 .1
+  is-opened = opened x (not-false (isOpen x) (clear .0))
 
   pub bounded : Bounded (sampleIn s)
   unfolding JudgedBounded sample.layOut sample.judgeSample
   bounded =
+      let (_, (length, (mark, (_, (_, (reading, _)))))) = clear in
       let raw = sample.rawIn s in
-      judged-bounded s raw (sampleIn s) (ap (λ (v : Verdict). sample.answer v raw) (append-accepted (sample.layoutRules s) _ after-1))
-      (ap (λ (v : Verdict). sample.judgement v (sampleIn s)) (append-accepted (sample.judgeRules raw) _ after-7))
+      judged-bounded s raw (sampleIn s) (ap (λ (v : Verdict). sample.answer v raw) (passed _ _ _ length ∙ last-passed _ _ mark))
+      (ap (λ (v : Verdict). sample.judgement v (sampleIn s)) (last-passed _ _ reading))
 
   judged : profile.judgeProfile p ≡ (Accepted, profile.count p)
-  judged = profile-sound.judge-kept p (not-false (profile.keptIn p) (accepted _ _ _ after-3 .0))
+  judged =
+      let (_, (_, (_, (broken, _)))) = clear in
+      profile-sound.judge-lawful p (not-false (profile.lawfulIn p) broken)
 
-  last-within : lastStart p ≤ 4000000
+  last-within : lastStart p ≤ farthest
   last-within =
       let k = profile-sound.judged-sound p (profile.count p) judged in
       k .each (profile.count p - 1) (omega (arith, k .fewest)) .start
 
-  pub covered : sampleIn s .head + 32768 ≤ 4000000
+  pub covered : sampleIn s .head + reach ≤ farthest
   unfolding notCovered
   covered =
+      let (_, (_, (_, (_, (_, (_, (_, (uncovered, _)))))))) = clear in
       let m = sampleIn s in
-      let c = x .consist in
-      omega (
-        arith,
-        last-within,
-        ltb-false (lastStart p) (m .head + 32768)
-            (neither (ltb (m .head) (c .length) || ltb (m .head - c .length) (profile.segmentAt p 0 .start)) (ltb (lastStart p) (m .head + 32768))
-            (accepted _ _ _ (accepted _ _ _ after-8 .1) .0)
-            .1),
-      )
+      let near = ltb (m .head) (x .consist .length) || ltb (m .head - x .consist .length) (profile.segmentAt p 0 .start) in
+      let far = ltb (lastStart p) (m .head + reach) in
+      omega (arith, last-within, ltb-false (lastStart p) (m .head + reach) (neither near far uncovered .1))
 
-  pub ready : Ready x (sampleIn s) p
+  pub ready : Ready (x .consist) (x .brake) (sampleIn s) p
   ready = record {
     consist = is-opened .consist;
     brake = is-opened .brake;

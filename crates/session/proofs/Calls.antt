@@ -11,23 +11,19 @@ use Rattle.refusal.specs.declared.Refusal.{Refusal}
 use Rattle.refusal.specs.declared.Refusal.the-variants.{TooFast}
 use Rattle.refusal.specs.declared.Verdict.{Verdict}
 use Rattle.refusal.specs.declared.Verdict.the-variants.{Accepted, Refused}
+use Rattle.refusal.proofs.Exactly.{written-verdict}
 use Rattle.refusal.proofs.Order.{given, passed, last-passed, append-given, append-passed}
 use Rattle.decision.specs.Decision as decision
 use Rattle.session.specs.declared.Session.{Session}
 use Rattle.session.specs.declared.Answer.{Answer}
-use Rattle.session.specs.Session.{unchanged, refusedWith}
+use Rattle.session.specs.Session.{answer, refusedWith}
 use Rattle.session.specs.Sample.{sampleIn, prediction, rules, decisionOf, sessionAfter, sampleCall}
 use Rattle.session.specs.Steps.{rulesBefore}
-
--- a writer's verdict is the one that it is given
-verdict-is : (v : Verdict) (bytes out : List ℕ) → written v bytes out .0 ≡ v
-verdict-is Accepted bytes out = refl
-verdict-is (Refused r) bytes out = refl
 
 module _ (x : Session) (s p t out : List ℕ) where
   -- what a verdict makes of the session
   abbrev moved : Verdict → Answer
-  moved v = unchanged (kept v (sessionAfter x (sampleIn s) p t) x) v
+  moved v = answer (kept v (sessionAfter x (sampleIn s) p t) x) v
 
   -- the call by its verdict
   pub answered : (v : Verdict) → lowest (rules x s p t out) ≡ v
@@ -58,5 +54,5 @@ module _ (x : Session) (s p t out : List ℕ) where
         let e : decision.writeDecision d out ≡ written (lowest (rules x s p t out)) (decision.bytesOf d) out =
         ap (λ (u : Verdict). written u (decision.bytesOf d) out) (passed _ _ _ fine ∙ sym (append-passed (rulesBefore x s p t) _ h ∙ passed _ _ _ f)) in
         let found = w ∙ e in
-        let a : v ≡ lowest (rules x s p t out) = (λ i. found i .0) ∙ verdict-is (lowest (rules x s p t out)) (decision.bytesOf d) out in
+        let a : v ≡ lowest (rules x s p t out) = (λ i. found i .0) ∙ written-verdict (lowest (rules x s p t out)) (decision.bytesOf d) out in
         answered _ refl ∙ ap₂ (λ (u : Verdict) (l : List ℕ). (moved u, l)) (sym a) (sym (λ i. found i .1))

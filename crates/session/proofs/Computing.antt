@@ -13,7 +13,7 @@ use Rattle.profile.specs.Profile as profile
 use Rattle.targets.specs.Targets as targets
 use Rattle.sample.specs.Sample as sample
 use Rattle.decision.specs.Decision as decision
-use Rattle.brake.specs.Brake.{isOpened}
+use Rattle.brake.specs.Brake.{isAtOpening}
 use Rattle.brake.specs.Readings as readings
 use Rattle.brake.specs.Rules as rules
 use Rattle.brake.specs.Sound as sound
@@ -22,10 +22,12 @@ use Rattle.walk.specs.Curve as curve
 use Rattle.walk.specs.Step as step
 use Rattle.walk.specs.Walk as walk
 use Rattle.judge.specs.Judge as judge
+use Rattle.judge.specs.Approach as approach
 use Rattle.session.specs.Session.{isOpen}
 use Rattle.session.specs.Open.{openOf}
-use Rattle.session.specs.Sample.{wrongTime, notCovered, predictionOf, calledOf, causeAfter, sampleCall}
+use Rattle.session.specs.Table.{notCovered}
+use Rattle.session.specs.Sample.{wrongTime, causeAfter, sampleCall}
 
 unfoldable pub computing : Unit {0}
-unfolding ofBits lowest noRoom floorDiv ceilDiv digits rootOf isOpen openOf wrongTime notCovered predictionOf calledOf causeAfter sampleCall reading.hundredthsOf reading.isBad consist.consistIn consist.inRange consist.tooLight consist.isSound consist.readConsist table.computing profile.inRange profile.ends targets.inRange sample.rawIn sample.layOut sample.judgeSample wrongLength sample.wrongMark sample.badReading decision.decisionIn decision.bytesOf decision.wrongMark decision.outOfRange decision.readDecision readings.elapsedOf readings.rateOf readings.rearOf readings.nominalOf readings.readingOf readings.application readings.release readings.emergency rules.startEmergency rules.startService rules.startApplying rules.startCharging rules.fallInService rules.fallInEmergency rules.inCharged rules.recharged rules.inCharging rules.fallOrHold rules.inApplyingService rules.inHoldingService rules.inApplyingEmergency rules.inHoldingEmergency rules.updateOf sound.isSound isOpened track.layOf track.feet track.gradeFeet track.curveFeet track.gradeUnder track.curveUnder curve.dropAt curve.cylinderAt curve.forceAt curve.penaltyCurve step.opposing step.loss step.stepTime step.stepOf walk.tooFast walk.walkTo walk.placeFor walk.predictOf judge.isJudged judge.offsetFor judge.isCalled judge.firstFrom judge.causeOf isNan
+unfolding ofBits lowest noRoom floorDiv ceilDiv digits rootOf isOpen openOf wrongTime notCovered approach.predictionOf approach.callOf causeAfter sampleCall reading.hundredthsOf reading.isBad consist.consistIn consist.inRange consist.tooLight consist.isSound consist.readConsist table.computing profile.inRange profile.ends targets.inRange sample.rawIn sample.layOut sample.judgeSample wrongLength sample.wrongMark sample.badReading decision.decisionIn decision.bytesOf decision.wrongMark decision.outOfRange decision.readDecision readings.elapsedOf readings.rateOf readings.rearTaken readings.nominalOf readings.readingOf readings.application readings.release readings.emergency rules.startEmergency rules.startService rules.startApplying rules.startCharging rules.fallInService rules.fallInEmergency rules.inCharged rules.recharged rules.inCharging rules.fallOrHold rules.inApplyingService rules.inHoldingService rules.inApplyingEmergency rules.inHoldingEmergency rules.updateOf sound.isSound isAtOpening track.layOf track.feet track.gradeFeet track.curvatureFeet track.gradeUnder track.curvatureUnder curve.dropAt curve.cylinderAt curve.forceAt curve.penaltyCurve step.opposing step.loss step.stepTime step.stepOf walk.tooFast walk.walkTo walk.arrivalFor walk.predictOf judge.isJudged judge.offsetFor judge.isCalled judge.firstFrom judge.causeOf isNan
 computing = tt

@@ -1,4 +1,4 @@
--- Refusals exactly on their conditions, an open session stays one, the penalty stands. Assumes nothing.
+-- A refused call leaves the session, an open session stays one, the penalty stands. Assumes nothing.
 use mathlib.Core.Path.{_≡_, refl, sym, ap, _∙_, subst}
 use mathlib.Core.Bool.{Bool, true, false, _||_}
 use mathlib.Core.List.{List, [], _∷_}
@@ -7,53 +7,37 @@ use native.Mathlib.Omega.{arith}
 use borrow.Author.Tests.{le-leb, ne-eqb}
 use Rattle.refusal.specs.Lowest.{lowest}
 use Rattle.refusal.specs.Steps.{kept}
-use Rattle.refusal.specs.Written.{written}
-use Rattle.refusal.specs.Exactly.{Exactly}
-use Rattle.refusal.specs.declared.Refusal.{Refusal}
 use Rattle.refusal.specs.declared.Verdict.{Verdict}
 use Rattle.refusal.specs.declared.Verdict.the-variants.{Accepted, Refused}
-use Rattle.refusal.proofs.Exactly.{exactly}
-use Rattle.refusal.proofs.Order.{accepted, append-accepted}
+use Rattle.refusal.proofs.Order.{append-accepted}
 use Rattle.consist.specs.declared.Consist.{Consist}
 use Rattle.consist.specs.Consist as consist
 use Rattle.consist.specs.Consist.{consistIn, none, readConsist}
-use Rattle.consist.specs.Exactly.{ReadExactly}
-use Rattle.consist.proofs.Exactly.{read-exactly}
 use Rattle.consist.proofs.Sound as consist-sound
 use Rattle.targets.specs.Targets as targets
 use Rattle.sample.specs.declared.Sample.{Sample}
 use Rattle.brake.specs.Rules.{updateOf}
 use Rattle.brake.specs.Sound as brake
-use Rattle.brake.proofs.Sound.{opened-sound}
+use Rattle.brake.proofs.Sound.{at-opening-sound}
 use Rattle.brake.proofs.Tested as brake-tested
 use Rattle.session.specs.declared.Session.{Session}
 use Rattle.session.specs.Session.{isFresh, isOpen}
 use Rattle.session.specs.Open.{openedWith, openOf}
 use Rattle.session.specs.Sample.{sampleIn, brakeAfter, causeAfter, sessionAfter, rules, sampleCall}
 use Rattle.session.specs.Steps.{rulesBefore}
-use Rattle.session.specs.Laws.{OpenExactly, SampleExactly, OpensOpen, StaysOpen, FreshOpening, afterSamples, CauseStands}
+use Rattle.session.specs.Laws.{OpenUnchanged, SampleUnchanged, OpensOpen, StaysOpen, FreshOpening, afterSamples, CauseStands}
 use Rattle.session.proofs.Accepted.{predictable}
-use Rattle.session.proofs.Admitted.{opened, is-opened, ready, cause-within}
+use Rattle.session.proofs.Admitted.{none-holds, opened, is-opened, ready, cause-within}
 
--- ---- exactly
+-- ---- refused
 
-pub open-exactly : OpenExactly
-unfolding OpenExactly openOf ReadExactly
-open-exactly x s = record {
-  refused = read-exactly s .refused;
-  kept = λ r h. ap (λ (v : Verdict). kept v (openedWith (readConsist s .1)) x) h;
-}
+pub open-unchanged : OpenUnchanged
+unfolding OpenUnchanged openOf
+open-unchanged x s r h = ap (λ (v : Verdict). kept v (openedWith (readConsist s .1)) x) h
 
-untouched : (v : Verdict) (bytes out : List ℕ) (r : Refusal) → v ≡ Refused r → written v bytes out .1 ≡ out
-untouched v bytes out r h = ap (λ (w : Verdict). written w bytes out .1) h
-
-pub sample-exactly : SampleExactly
-unfolding SampleExactly sampleCall Exactly
-sample-exactly x s p t out = record {
-  refused = exactly (rules x s p t out) .refused;
-  kept = λ r h. ap (λ (v : Verdict). kept v (sessionAfter x (sampleIn s) p t) x) h;
-  untouched = λ r h. untouched _ _ out r h;
-}
+pub sample-unchanged : SampleUnchanged
+unfolding SampleUnchanged sampleCall
+sample-unchanged x s p t out r h = ap (λ (v : Verdict). kept v (sessionAfter x (sampleIn s) p t) x) h
 
 -- ---- open
 
@@ -67,13 +51,13 @@ module _ (x : Session) where
 -- an opening with a consist that is not refused
 opened-open : (c : Consist) → consist.outOfRange c ≡ false → consist.tooLight c ≡ false → isOpen (openedWith c) ≡ true
 opened-open c r w =
-    is-open (openedWith c) refl (consist-sound.sound-is c r w) (opened-sound c (consist-sound.sound c r w)) (omega arith) (rw (brake-tested.opened-passes c))
+    is-open (openedWith c) refl (consist-sound.sound-is c r w) (at-opening-sound c (consist-sound.sound c r w)) (omega arith) (rw (brake-tested.at-opening-passes c))
 
 pub opens-open : OpensOpen
 unfolding OpensOpen openOf readConsist
 opens-open x s h =
-    let c = accepted _ _ _ (accepted _ _ _ h .1) in
-    ap (λ (v : Verdict). isOpen (kept v (openedWith (kept v (consistIn s) none)) x)) h ∙ opened-open (consistIn s) (c .0) (accepted _ _ _ (c .1) .0)
+    let (_, (range, (light, _))) = none-holds (consist.readRules s) h in
+    ap (λ (v : Verdict). isOpen (kept v (openedWith (kept v (consistIn s) none)) x)) h ∙ opened-open (consistIn s) range light
 
 -- an update has taken a sample
 sampled : (x : Session) (m : Sample) → brakeAfter x m .sampled ≡ true

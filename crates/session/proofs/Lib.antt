@@ -5,6 +5,4 @@ pub mod Accepted
 pub mod Admitted
 pub mod Calls
 pub mod Laws
-pub mod Unique
 pub mod Computing
-pub mod Figures

@@ -18,7 +18,8 @@ use Rattle.sample.specs.declared.RawSample.{RawSample}
 use Rattle.sample.specs.Sample as sample
 use Rattle.session.specs.declared.Session.{Session}
 use Rattle.session.specs.Session.{isOpen}
-use Rattle.session.specs.Sample.{sampleIn, wrongTime, notCovered}
+use Rattle.session.specs.Table.{notCovered}
+use Rattle.session.specs.Sample.{sampleIn, wrongTime}
 use Rattle.session.specs.Steps.{rulesRaw, noEntry, admitRaw, admitOf}
 
 -- a step's verdict, or what comes after it

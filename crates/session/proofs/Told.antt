@@ -7,7 +7,7 @@ use Rattle.brake.specs.declared.Brake.{Brake}
 use Rattle.brake.proofs.Told.{brake-one}
 use Rattle.session.specs.declared.Session.{Session}
 use Rattle.session.specs.declared.Answer.{Answer}
-use Rattle.session.specs.Session.{Told, sessionTold, unchanged, answerTold, callTold}
+use Rattle.session.specs.Session.{Told, sessionTold, answer, answerTold, callTold}
 
 pub session-one : (x y : Session) → sessionTold x ≡ sessionTold y → x ≡ y
 session-one x y h =
@@ -16,7 +16,7 @@ session-one x y h =
 pub answer-one : (x y : Answer) → answerTold x ≡ answerTold y → x ≡ y
 answer-one x y h =
     let e = told-one (x .verdict, sessionTold (x .session)) (y .verdict, sessionTold (y .session)) h in
-    ap₂ unchanged (session-one (x .session) (y .session) (λ i. e i .1)) (λ i. e i .0)
+    ap₂ answer (session-one (x .session) (y .session) (λ i. e i .1)) (λ i. e i .0)
 
 pub call-one : (x y : Answer × List ℕ) → callTold x ≡ callTold y → x ≡ y
 call-one x y h = ap₂ (λ (a : Answer) (out : List ℕ). (a, out)) (answer-one (x .0) (y .0) (λ i. h i .0)) (λ i. h i .1)

@@ -1,35 +1,24 @@
--- What holds of every session: refusals exactly on their conditions, an open session stays one, the penalty stands.
+-- What holds of every session: a refused call leaves it, an open one stays open, the penalty stands.
 -- Statements; proofs/Laws.antt proves them.
 use mathlib.Core.Path.{_≡_}
 use mathlib.Core.Bool.{true, false}
 use mathlib.Core.List.{List, [], _∷_}
-use mathlib.Core.Logic.{_↔_}
 use Prim.Native.Nat.{ℕ, _<_}
-use Rattle.refusal.specs.Exactly.{Lowest}
 use Rattle.refusal.specs.declared.Refusal.{Refusal}
 use Rattle.refusal.specs.declared.Verdict.the-variants.{Accepted, Refused}
-use Rattle.consist.specs.Consist.{readRules}
 use Rattle.session.specs.declared.Session.{Session}
 use Rattle.session.specs.Session.{isOpen}
 use Rattle.session.specs.Open.{openedWith, openOf}
-use Rattle.session.specs.Sample.{rules, sampleCall}
+use Rattle.session.specs.Sample.{sampleCall}
 
--- ---- "a refusal is given exactly on its stated condition", the lowest first; "a refused call changes neither the session nor one byte of the output"
+-- ---- "A refused call changes neither the session nor one byte of the output": of the session; crate demands has the whole sentence
 
-pub record OpenExact (x : Session) (s : List ℕ) : Type 0 where
-  pub refused : (r : Refusal) → (openOf x s .verdict ≡ Refused r) ↔ Lowest (readRules s) r
-  pub kept : (r : Refusal) → openOf x s .verdict ≡ Refused r → openOf x s .session ≡ x
+unfoldable pub OpenUnchanged : Type 0
+OpenUnchanged = (x : Session) (s : List ℕ) (r : Refusal) → openOf x s .verdict ≡ Refused r → openOf x s .session ≡ x
 
-pub record SampleExact (x : Session) (s p t out : List ℕ) : Type 0 where
-  pub refused : (r : Refusal) → (sampleCall x s p t out .0 .verdict ≡ Refused r) ↔ Lowest (rules x s p t out) r
-  pub kept : (r : Refusal) → sampleCall x s p t out .0 .verdict ≡ Refused r → sampleCall x s p t out .0 .session ≡ x
-  pub untouched : (r : Refusal) → sampleCall x s p t out .0 .verdict ≡ Refused r → sampleCall x s p t out .1 ≡ out
-
-unfoldable pub OpenExactly : Type 0
-OpenExactly = (x : Session) (s : List ℕ) → OpenExact x s
-
-unfoldable pub SampleExactly : Type 0
-SampleExactly = (x : Session) (s p t out : List ℕ) → SampleExact x s p t out
+unfoldable pub SampleUnchanged : Type 0
+SampleUnchanged =
+    (x : Session) (s p t out : List ℕ) (r : Refusal) → sampleCall x s p t out .0 .verdict ≡ Refused r → sampleCall x s p t out .0 .session ≡ x
 
 -- ---- every session that an accepted call hands back is open
 

@@ -6,16 +6,17 @@ use Rattle.refusal.specs.Steps.{kept}
 use Rattle.refusal.specs.declared.Verdict.{Verdict}
 use Rattle.consist.specs.declared.Consist.{Consist}
 use Rattle.consist.specs.Consist.{readConsist}
-use Rattle.brake.specs.Brake.{opened}
+use Rattle.brake.specs.Brake.{atOpening}
 use Rattle.session.specs.declared.Session.{Session}
 use Rattle.session.specs.declared.Answer.{Answer}
+use Rattle.session.specs.Session.{answer}
 
 -- "Opening gives state 0, hold = A = set, B = 0"; no penalty stands
 abbrev pub openedWith : Consist → Session
-openedWith c = record { opened = true; consist = c; brake = opened c; cause = 0 }
+openedWith c = record { opened = true; consist = c; brake = atOpening c; cause = 0 }
 
 abbrev pub openedBy : Session → Verdict × Consist → Answer
-openedBy x read = record { session = kept (read .0) (openedWith (read .1)) x; verdict = read .0 }
+openedBy x read = answer (kept (read .0) (openedWith (read .1)) x) (read .0)
 
 unfoldable pub openOf : Session → List ℕ → Answer
 openOf x s = openedBy x (readConsist s)

@@ -10,7 +10,7 @@ use Rattle.refusal.specs.declared.Verdict.the-variants.{Refused}
 use Rattle.consist.specs.declared.Consist.{Consist}
 use Rattle.consist.specs.Consist as consist
 use Rattle.targets.specs.Targets as targets
-use Rattle.brake.specs.Brake.{brakeTold, opened, isOpened}
+use Rattle.brake.specs.Brake.{brakeTold, atOpening, isAtOpening}
 use Rattle.brake.specs.Sound as brake
 use Rattle.session.specs.declared.Session.{Session}
 use Rattle.session.specs.declared.Answer.{Answer}
@@ -19,7 +19,7 @@ use Rattle.session.specs.declared.Answer.{Answer}
 
 -- what a session is that has taken no sample: the brake of an opening, and no cause
 abbrev pub isFresh : Session → Bool
-isFresh x = isOpened (x .consist) (x .brake) && eqb (x .cause) 0
+isFresh x = isAtOpening (x .consist) (x .brake) && eqb (x .cause) 0
 
 -- every value that an opening or an accepted sample hands back passes this test; what fails it is no open session
 unfoldable pub isOpen : Session → Bool
@@ -32,14 +32,15 @@ isOpen x =
 
 -- the value before any opening
 abbrev pub noneOpen : Session
-noneOpen = record { opened = false; consist = consist.none; brake = opened consist.none; cause = 0 }
+noneOpen = record { opened = false; consist = consist.none; brake = atOpening consist.none; cause = 0 }
 
--- a refused call: "an earlier session stays as it was"
-abbrev pub unchanged : Session → Verdict → Answer
-unchanged x v = record { session = x; verdict = v }
+-- what a call hands back
+abbrev pub answer : Session → Verdict → Answer
+answer x v = record { session = x; verdict = v }
 
+-- of a refused one: "an earlier session stays as it was"
 abbrev pub refusedWith : Session → Refusal → Answer
-refusedWith x r = unchanged x (Refused r)
+refusedWith x r = answer x (Refused r)
 
 -- ---- the paper's number and values
 

@@ -1,9 +1,9 @@
 -- What the steps of a sample call find on their way. Definitions only.
-use mathlib.Core.List.{List, [], _∷_, _++_}
+use mathlib.Core.List.{List, _++_}
 use Prim.Native.Nat.{ℕ, _≤_}
 use Rattle.refusal.specs.Lowest.{Rule, lowest}
-use Rattle.refusal.specs.declared.Refusal.the-variants.{NoSession, BrokenProfile, BrokenTargets, BadReading, WrongTime, NotCovered}
 use Rattle.refusal.specs.declared.Verdict.{Verdict}
+use Rattle.record.specs.Location.{farthest}
 use Rattle.consist.specs.declared.Consist.{Consist}
 use Rattle.consist.specs.Sound as consist
 use Rattle.brake.specs.declared.Brake.{Brake}
@@ -13,27 +13,21 @@ use Rattle.track.specs.Gentle.{Gentle}
 use Rattle.sample.specs.Bounds.{Bounded}
 use Rattle.sample.specs.declared.RawSample.{RawSample}
 use Rattle.sample.specs.declared.Sample.{Sample}
-use Rattle.sample.specs.Sample.{rawIn, sampleOf, badReading, layoutRules, noSample, judgement}
-use Rattle.profile.specs.Profile as profile
+use Rattle.sample.specs.Sample.{rawIn, sampleOf, layoutRules, noSample, judgement}
 use Rattle.targets.specs.Targets as targets
 use Rattle.session.specs.declared.Session.{Session}
 use Rattle.session.specs.declared.After.{After}
 use Rattle.session.specs.declared.Listed.{Listed}
-use Rattle.session.specs.Sample.{sampleIn, notOpen, wrongTime, notCovered, sessionAfter, decisionOf, prediction}
+use Rattle.session.specs.Table.{linesBefore}
+use Rattle.session.specs.Sample.{sampleIn, wrongTime, openFirst, sessionAfter, decisionOf, prediction}
 
 -- the table's lines between the layout and the walk, of a sample that is laid out
 abbrev pub rulesRaw : Session → RawSample → List ℕ → List ℕ → List Rule
-rulesRaw x raw p t =
-    (profile.brokenIn p, BrokenProfile)
-    ∷ (targets.brokenIn t, BrokenTargets)
-    ∷ (badReading raw, BadReading)
-    ∷ (wrongTime x (sampleOf raw), WrongTime)
-    ∷ (notCovered (x .consist) p (sampleOf raw), NotCovered)
-    ∷ []
+rulesRaw x raw p t = linesBefore (x .consist) (wrongTime x (sampleOf raw)) raw p t
 
 -- and all of them before the walk
 abbrev pub rulesBefore : Session → List ℕ → List ℕ → List ℕ → List Rule
-rulesBefore x s p t = (notOpen x, NoSession) ∷ layoutRules s ++ rulesRaw x (rawIn s) p t
+rulesBefore x s p t = openFirst x (layoutRules s ++ rulesRaw x (rawIn s) p t)
 
 -- a refused entry has no sample
 abbrev pub noEntry : Verdict → Verdict × Sample
@@ -57,17 +51,10 @@ afterOf x m p t = record { session = sessionAfter x m p t; decision = decisionOf
 
 -- ---- what the steps after admission ask
 
--- what a prediction asks
-pub record Predictable (c : Consist) (k : Brake) (m : Sample) (p : List ℕ) : Type 0 where
+-- what is known of an admitted sample, before the update and after it
+pub record Ready (c : Consist) (k : Brake) (m : Sample) (p : List ℕ) : Type 0 where
   pub consist : consist.Sound c
   pub brake : brake.Sound c k
-  pub track : Gentle (layOf p)
-  pub head : m .head ≤ 4000000
-
--- what is known of an admitted sample
-pub record Ready (x : Session) (m : Sample) (p : List ℕ) : Type 0 where
-  pub consist : consist.Sound (x .consist)
-  pub brake : brake.Sound (x .consist) (x .brake)
   pub sample : Bounded m
   pub track : Gentle (layOf p)
-  pub head : m .head ≤ 4000000
+  pub head : m .head ≤ farthest

@@ -10,7 +10,8 @@ use sample::RawSample;
 use sample::RearPressure;
 use sample::Sample;
 ghost use mathlib.Core.Path.{_≡_};
-ghost use Rattle.session.specs.Sample.{wrongTime, lastStart, notCovered};
+ghost use Rattle.session.specs.Sample.{wrongTime};
+ghost use Rattle.session.specs.Table.{lastStart, notCovered};
 ghost use Rattle.session.specs.Steps.{noEntry, admitRaw, admitOf};
 
 // Time not 1 to 5 seconds after the last accepted sample.
@@ -40,7 +41,7 @@ fn not_covered(c: Consist, p: &[u8], m: Sample) -> bool
     let last = last_start(p);
     let length = c.length as u32;
     let rear = if length < m.head { m.head - length } else { 0 };
-    (m.head < length) | (rear < first) | ((last as u64) < m.head as u64 + 32_768)
+    (m.head < length) | (rear < first) | ((last as u64) < m.head as u64 + walk::REACH)
 }
 
 // No sample to go on with.

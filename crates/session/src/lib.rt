@@ -12,7 +12,7 @@ use refusal::Verdict;
 use sample::Sample;
 use targets::Target;
 ghost use mathlib.Core.Path.{_≡_};
-ghost use Rattle.session.specs.Session.{isOpen, noneOpen, unchanged, sessionTold, answerTold, callTold};
+ghost use Rattle.session.specs.Session.{isOpen, noneOpen, answer, sessionTold, answerTold, callTold};
 ghost use Rattle.session.specs.Open.{openOf};
 ghost use Rattle.session.specs.Sample.{sampleCall};
 
@@ -67,7 +67,7 @@ pub fn none() -> Session
         set: 0,
         offset: 0,
     };
-    let brake = Brake::opened(consist);
+    let brake = Brake::at_opening(consist);
     Session {
         opened: false,
         consist,
@@ -84,7 +84,7 @@ pub fn is_open(x: Session) -> bool
     let k = x.brake;
     let consist_sound = consist::is_sound(c);
     let brake_sound = k.is_sound(c);
-    let fresh = k.is_opened(c) & (x.cause == 0);
+    let fresh = k.is_at_opening(c) & (x.cause == 0);
     x.opened
         & consist_sound
         & brake_sound
@@ -94,7 +94,7 @@ pub fn is_open(x: Session) -> bool
 
 // The session as it was.
 fn refused(x: Session, verdict: Verdict) -> Answer
-    ensures { λ y. ⌜ y ≡ unchanged x verdict ⌝ }
+    ensures { λ y. ⌜ y ≡ answer x verdict ⌝ }
 {
     Answer {
         session: x,
@@ -112,7 +112,7 @@ pub fn open(x: Session, s: &[u8]) -> Answer
         return refused(x, verdict);
     };
     let c = read.consist;
-    let brake = Brake::opened(c);
+    let brake = Brake::at_opening(c);
     let session = Session {
         opened: true,
         consist: c,

@@ -13,8 +13,9 @@ use walk::Prediction;
 ghost use mathlib.Core.Path.{_≡_};
 ghost use mathlib.Core.Bool.{cond};
 ghost use lib.Dec.{eqb};
-ghost use Rattle.session.specs.Sample.{predictionOf};
-ghost use Rattle.session.specs.Steps.{listedOf, afterOf, Predictable, Ready};
+ghost use Rattle.judge.specs.Approach.{predictionOf};
+ghost use Rattle.session.specs.Sample.{approachOf};
+ghost use Rattle.session.specs.Steps.{listedOf, afterOf, Ready};
 
 fn listed(t: &[u8]) -> Listed
     ensures { λ r. ⌜ r ≡ listedOf (now (t .entry)) ⌝ }
@@ -37,8 +38,8 @@ fn listed(t: &[u8]) -> Listed
 
 // From the pressures of an updated brake.
 fn predicted(c: Consist, k: Brake, m: Sample, p: &[u8], speeds: [u16; Target::MOST]) -> Prediction
-    requires { ⌜ Predictable c k m (now p) ⌝ }
-    ensures { λ r. ⌜ r ≡ predictionOf c k m (now (p .entry)) speeds ⌝ }
+    requires { ⌜ Ready c k m (now p) ⌝ }
+    ensures { λ r. ⌜ r ≡ predictionOf (approachOf c k m (now (p .entry))) speeds ⌝ }
 {
     let curve = Curve::penalty(c, k.a, k.b);
     let track = Track::laid(p);
@@ -53,7 +54,7 @@ fn standing(stands: u8, called: u8) -> u8
 }
 
 pub(crate) fn after(x: Session, m: Sample, p: &[u8], t: &[u8]) -> After
-    requires { ⌜ Ready x m (now p) ⌝ }
+    requires { ⌜ Ready (x .consist) (x .brake) m (now p) ⌝ }
     ensures { λ r. ⌜ r ≡ afterOf x m (now (p .entry)) (now (t .entry)) ⌝ }
 {
     let c = x.consist;
@@ -64,7 +65,7 @@ pub(crate) fn after(x: Session, m: Sample, p: &[u8], t: &[u8]) -> After
     let locations = targets.locations;
     let speeds = targets.speeds;
     let found = predicted(c, updated, m, p, speeds);
-    let places = found.places;
+    let arrivals = found.arrivals;
     let called = judge::cause(
         c.offset,
         m.head,
@@ -72,7 +73,7 @@ pub(crate) fn after(x: Session, m: Sample, p: &[u8], t: &[u8]) -> After
         targets.count,
         locations,
         speeds,
-        places,
+        arrivals,
     );
     let cause = standing(x.cause, called);
     let state = updated.state;

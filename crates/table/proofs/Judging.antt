@@ -12,12 +12,12 @@ use lib.ListN.{length}
 use borrow.Author.Tests.{leb-true, ltb-true, eqb-true, not-true, not-false}
 use Rattle.bits.proofs.Ranges.{and-true-left, and-true-right}
 use Rattle.refusal.specs.Lowest.{lowest}
-use Rattle.refusal.specs.Steps as steps
+use Rattle.refusal.specs.Steps.{kept}
 use Rattle.refusal.specs.declared.Verdict.{Verdict}
 use Rattle.refusal.specs.declared.Verdict.the-variants.{Accepted}
 use Rattle.refusal.proofs.Order.{accepted}
 use Rattle.refusal.proofs.Steps.{firstOf, in-order}
-use Rattle.table.specs.Table.{every, Table, counted, rises, good, closed, kept, count, recordAt, cleanAt, keptIn, judgeRules, answer, judge}
+use Rattle.table.specs.Table.{every, Table, counted, rises, good, closed, lawful, count, recordAt, cleanAt, lawfulIn, judgeRules, answer, judge}
 
 -- ---- of every number below n
 
@@ -92,18 +92,18 @@ module _ {A : Type 0} (t : Table A) where
     })
 
     -- the rules in the order in which they are tested: a wrong number of records, which `a` and b find, or a right one and all of them judged
-    pub kept-wrong : (a : Bool) {b : Bool} → b ≡ a && counted t n → not b ≡ true → a && kept t n f right ≡ false
-    unfolding kept
-    kept-wrong a {b} h e = sym (and-assoc a (counted t n) _) ∙ rw (sym h ∙ not-true b e)
+    pub lawful-wrong : (a : Bool) {b : Bool} → b ≡ a && counted t n → not b ≡ true → a && lawful t n f right ≡ false
+    unfolding lawful
+    lawful-wrong a {b} h e = sym (and-assoc a (counted t n) _) ∙ rw (sym h ∙ not-true b e)
 
-    pub kept-judged : (a : Bool) {b : Bool} → b ≡ a && counted t n → not b ≡ false → (k : ℕ) (all : Bool) (before : ℕ) (last : Bool) → Judged k all before → n ≤ k
-        → last ≡ closed t n f → a && kept t n f right ≡ all && last
-    unfolding kept
-    kept-judged a {b} h e k all before last j l is =
+    pub lawful-judged : (a : Bool) {b : Bool} → b ≡ a && counted t n → not b ≡ false → (k : ℕ) (all : Bool) (before : ℕ) (last : Bool) → Judged k all before → n ≤ k
+        → last ≡ closed t n f → a && lawful t n f right ≡ all && last
+    unfolding lawful
+    lawful-judged a {b} h e k all before last j l is =
         sym (and-assoc a (counted t n) _)
         ∙ rw (sym h ∙ not-false b e) (ap₂ _&&_ (ap (λ (i : ℕ). every i (good t f right)) (le-antisymm l (j .within)) ∙ sym (j .so-far)) (sym is))
 
-    -- ---- what is kept, said of the records
+    -- ---- what is lawful, said of the records
 
     pub record Sound : Type 0 where
       pub fewest : t .fewest ≤ n
@@ -113,9 +113,9 @@ module _ {A : Type 0} (t : Table A) where
       pub rising : (k m : ℕ) → k < m → m < n → t .key (f k) < t .key (f m)
       pub last : closed t n f ≡ true
 
-    pub kept-sound : kept t n f right ≡ true → Sound
-    unfolding kept good
-    kept-sound h =
+    pub lawful-sound : lawful t n f right ≡ true → Sound
+    unfolding lawful good
+    lawful-sound h =
         let c = counted-range n (and-true-left (counted t n) _ h) in
         let rest = and-true-right (counted t n) (every n (good t f right) && closed t n f) h in
         let one : (k : ℕ) → k < n → right k && (t .inRange (f k) && rises t f k) ≡ true =
@@ -142,31 +142,31 @@ module _ {A : Type 0} (t : Table A) where
     closed-same zero same = refl
     closed-same (suc n) same = ap (t .ends) (same n (omega arith))
 
-    pub kept-same : (n : ℕ) → ((k : ℕ) → k < n → f k ≡ g k) → ((k : ℕ) → k < n → r k ≡ s k) → kept t n f r ≡ kept t n g s
-    unfolding kept
-    kept-same n same bits =
+    pub lawful-same : (n : ℕ) → ((k : ℕ) → k < n → f k ≡ g k) → ((k : ℕ) → k < n → r k ≡ s k) → lawful t n f r ≡ lawful t n g s
+    unfolding lawful
+    lawful-same n same bits =
         ap₂ (λ (a b : Bool). counted t n && (a && b)) (every-same n (good t f r) (good t g s) (good-same n same bits)) (closed-same n same)
 
   -- ---- the judge
 
-  pub judge-is : (s : List ℕ) (b : Bool) → keptIn t s ≡ b → judge t s ≡ answer t (firstOf ((not b, t .broken) ∷ [])) (count t s)
+  pub judge-is : (s : List ℕ) (b : Bool) → lawfulIn t s ≡ b → judge t s ≡ answer t (firstOf ((not b, t .broken) ∷ [])) (count t s)
   unfolding judge
   judge-is s b h = rw (in-order (judgeRules t s) tt, h)
 
-  pub judged-kept : (s : List ℕ) (n : ℕ) → judge t s ≡ (Accepted, n) → (keptIn t s ≡ true) × (count t s ≡ n)
+  pub judged-lawful : (s : List ℕ) (n : ℕ) → judge t s ≡ (Accepted, n) → (lawfulIn t s ≡ true) × (count t s ≡ n)
   unfolding judge
-  judged-kept s n h =
+  judged-lawful s n h =
       let v : lowest (judgeRules t s) ≡ Accepted = ap (λ (x : Verdict × ℕ). x .0) h in
-      (not-false (keptIn t s) (accepted _ _ _ v .0), ap (λ (x : Verdict). steps.kept x (count t s) 0) (sym v) ∙ ap (λ (x : Verdict × ℕ). x .1) h)
+      (not-false (lawfulIn t s) (accepted _ _ _ v .0), ap (λ (x : Verdict). kept x (count t s) 0) (sym v) ∙ ap (λ (x : Verdict × ℕ). x .1) h)
 
-  pub judged-whole : (s : List ℕ) (n : ℕ) → judge t s ≡ (Accepted, n) → (length s ≡ t .size * n) × (kept t n (recordAt t s) (cleanAt t s) ≡ true)
-  unfolding keptIn
+  pub judged-whole : (s : List ℕ) (n : ℕ) → judge t s ≡ (Accepted, n) → (length s ≡ t .size * n) × (lawful t n (recordAt t s) (cleanAt t s) ≡ true)
+  unfolding lawfulIn
   judged-whole s n h =
-      let k = judged-kept s n h in
+      let k = judged-lawful s n h in
       let a = eqb (length s % t .size) 0 in
-      let w = eqb-true (length s % t .size) 0 (and-true-left a (kept t (count t s) (recordAt t s) (cleanAt t s)) (k .0)) in
-      subst (λ (m : ℕ). (length s ≡ t .size * m) × (kept t m (recordAt t s) (cleanAt t s) ≡ true)) (k .1)
+      let w = eqb-true (length s % t .size) 0 (and-true-left a (lawful t (count t s) (recordAt t s) (cleanAt t s)) (k .0)) in
+      subst (λ (m : ℕ). (length s ≡ t .size * m) × (lawful t m (recordAt t s) (cleanAt t s) ≡ true)) (k .1)
       (omega (arith, div-add-mod (length s) (t .size)), and-true-right a _ (k .0))
 
   pub judged-sound : (s : List ℕ) (n : ℕ) → judge t s ≡ (Accepted, n) → Sound n (recordAt t s) (cleanAt t s)
-  judged-sound s n h = kept-sound n (recordAt t s) (cleanAt t s) (judged-whole s n h .1)
+  judged-sound s n h = lawful-sound n (recordAt t s) (cleanAt t s) (judged-whole s n h .1)

@@ -22,9 +22,9 @@ use Rattle.refusal.specs.Written.{noRoom, written}
 use Rattle.refusal.specs.declared.Refusal.the-variants.{NoRoom}
 use Rattle.refusal.specs.declared.Verdict.the-variants.{Accepted}
 use Rattle.refusal.proofs.Steps.{firstOf, in-order}
-use Rattle.table.specs.Table.{Table, kept, recordBytes, bytesOf, keptOf, writeRules, write}
+use Rattle.table.specs.Table.{Table, lawful, recordBytes, bytesOf, lawfulOf, writeRules, write}
 use Rattle.table.proofs.Records.{Facts}
-use Rattle.table.proofs.Judging.{kept-sound}
+use Rattle.table.proofs.Judging.{lawful-sound}
 
 module _ {A : Type 0} (t : Table A) (f : ℕ → A) where
   one-length : (g : A) → length (recordBytes t g) ≡ t .size
@@ -67,18 +67,18 @@ module _ {A : Type 0} (t : Table A) (f : ℕ → A) where
 
   -- they keep the rules, there is room for them, and the first k stand before the rest of xs
   pub record Put (same : Bool) (n : ℕ) (xs : List ℕ) (k : ℕ) (out : List ℕ) : Type 0 where
-    pub right : keptOf t same n f ≡ true
+    pub right : lawfulOf t same n f ≡ true
     pub room : t .size * n ≤ length xs
     pub within : k ≤ n
     pub long : length out ≡ length xs
     pub so-far : out ≡ bytesOf t k f ++ drop (t .size * k) xs
 
-  pub put-none : (same : Bool) (n : ℕ) (xs : List ℕ) → keptOf t same n f ≡ true → t .size * n ≤ length xs → Put same n xs 0 xs
+  pub put-none : (same : Bool) (n : ℕ) (xs : List ℕ) → lawfulOf t same n f ≡ true → t .size * n ≤ length xs → Put same n xs 0 xs
   unfolding bytesOf
   put-none same n xs h r = record { right = h; room = r; within = omega arith; long = refl; so-far = ap (λ (i : ℕ). drop i xs) (sym (mul-zero (t .size))) }
 
   pub put-ranged : {same : Bool} {n : ℕ} {xs : List ℕ} {k : ℕ} {out : List ℕ} → Put same n xs k out → k < n → t .inRange (f k) ≡ true
-  put-ranged {same} {n} {xs} {k} {out} p l = kept-sound t n f (λ i. true) (and-true-right same (kept t n f (λ i. true)) (p .right)) .each k l
+  put-ranged {same} {n} {xs} {k} {out} p l = lawful-sound t n f (λ i. true) (and-true-right same (lawful t n f (λ i. true)) (p .right)) .each k l
 
   -- and one more, which is g
   pub put-next : Facts t → {same : Bool} {n : ℕ} {xs : List ℕ} {k : ℕ} {out : List ℕ} → Put same n xs k out → k < n → Bytes xs → (g : A) → g ≡ f k → (zs : List ℕ)
@@ -111,12 +111,12 @@ module _ {A : Type 0} (t : Table A) (f : ℕ → A) where
 
   -- ---- the writer
 
-  pub write-is : Facts t → (same : Bool) (n : ℕ) (out : List ℕ) (a b : Bool) → keptOf t same n f ≡ a → noRoom (t .size * n) out ≡ b
+  pub write-is : Facts t → (same : Bool) (n : ℕ) (out : List ℕ) (a b : Bool) → lawfulOf t same n f ≡ a → noRoom (t .size * n) out ≡ b
       → write t same n f out ≡ written (firstOf ((not a, t .broken) ∷ (b, NoRoom) ∷ [])) (bytesOf t n f) out
   unfolding write
   write-is facts same n out a b h e = rw (in-order (writeRules t same n f out) (facts .first), h, e)
 
-  pub write-accepted : Facts t → (same : Bool) (n : ℕ) (out : List ℕ) → keptOf t same n f ≡ true → t .size * n ≤ length out
+  pub write-accepted : Facts t → (same : Bool) (n : ℕ) (out : List ℕ) → lawfulOf t same n f ≡ true → t .size * n ≤ length out
       → write t same n f out ≡ (Accepted, bytesOf t n f ++ drop (t .size * n) out)
   unfolding noRoom
   write-accepted facts same n out k h =

@@ -8,7 +8,7 @@ use lib.Dec.{leb, ltb, eqb}
 use Rattle.bits.specs.Bytes.{fieldsIn, bytesFrom}
 use Rattle.bits.specs.Tables.{part}
 use Rattle.refusal.specs.Lowest.{Rule, lowest}
-use Rattle.refusal.specs.Steps as steps
+use Rattle.refusal.specs.Steps.{kept}
 use Rattle.refusal.specs.Written.{noRoom, written}
 use Rattle.refusal.specs.declared.Refusal.{Refusal}
 use Rattle.refusal.specs.declared.Refusal.the-variants.{NoRoom}
@@ -63,8 +63,8 @@ module _ {A : Type 0} (t : Table A) where
   closed (suc n) f = t .ends (f n)
 
   -- n records keep every rule
-  unfoldable pub kept : ℕ → (ℕ → A) → (ℕ → Bool) → Bool
-  kept n f right = counted n && (every n (good f right) && closed n f)
+  unfoldable pub lawful : ℕ → (ℕ → A) → (ℕ → Bool) → Bool
+  lawful n f right = counted n && (every n (good f right) && closed n f)
 
   -- ---- the judge, of bytes
 
@@ -83,19 +83,19 @@ module _ {A : Type 0} (t : Table A) where
   cleanAt s k = t .clean (fieldsAt s k)
 
   -- whole records, and the rules
-  unfoldable pub keptIn : List ℕ → Bool
-  keptIn s = eqb (length s % t .size) 0 && kept (count s) (recordAt s) (cleanAt s)
+  unfoldable pub lawfulIn : List ℕ → Bool
+  lawfulIn s = eqb (length s % t .size) 0 && lawful (count s) (recordAt s) (cleanAt s)
 
   -- a table breaks any rule, its byte count included
   abbrev pub brokenIn : List ℕ → Bool
-  brokenIn s = not (keptIn s)
+  brokenIn s = not (lawfulIn s)
 
   abbrev pub judgeRules : List ℕ → List Rule
   judgeRules s = (brokenIn s, t .broken) ∷ []
 
   -- the refusal, or how many records
   abbrev pub answer : Verdict → ℕ → Verdict × ℕ
-  answer v n = (v, steps.kept v n 0)
+  answer v n = (v, kept v n 0)
 
   unfoldable pub judge : List ℕ → Verdict × ℕ
   judge s = answer (lowest (judgeRules s)) (count s)
@@ -110,12 +110,12 @@ module _ {A : Type 0} (t : Table A) where
   bytesOf (suc n) f = bytesOf n f ++ recordBytes (f n)
 
   -- a value has no bits that could be wrong
-  abbrev pub keptOf : Bool → ℕ → (ℕ → A) → Bool
-  keptOf same n f = same && kept n f (λ k. true)
+  abbrev pub lawfulOf : Bool → ℕ → (ℕ → A) → Bool
+  lawfulOf same n f = same && lawful n f (λ k. true)
 
   -- "Writers refuse what the reader would, with its number"; 12: output under what a writer writes
   abbrev pub writeRules : Bool → ℕ → (ℕ → A) → List ℕ → List Rule
-  writeRules same n f out = (not (keptOf same n f), t .broken) ∷ (noRoom (t .size * n) out, NoRoom) ∷ []
+  writeRules same n f out = (not (lawfulOf same n f), t .broken) ∷ (noRoom (t .size * n) out, NoRoom) ∷ []
 
   -- "touching nothing, and never touch bytes past the record"
   unfoldable pub write : Bool → ℕ → (ℕ → A) → List ℕ → Verdict × List ℕ

@@ -1,6 +1,9 @@
 -- The targets' records.
+
+-- the paper's definitions
 pub mod Targets
-pub mod Sound
+-- statements
 pub mod RoundTrip
-pub mod Exactly
 pub mod Figures
+-- for proofs: what a caller may count on
+pub mod Sound

@@ -1,12 +1,13 @@
 -- What a caller may count on in targets that are accepted: `judged-sound` of proofs/Sound.antt.
 use Prim.Native.Nat.{ℕ, _≤_, _<_}
+use Rattle.record.specs.Location.{farthest}
 use Rattle.targets.specs.declared.Target.{Target}
 use Rattle.targets.specs.Targets as targets
 
 -- a target in range
 pub record Ranged (g : Target) : Type 0 where
-  pub location : g .location ≤ 4000000
-  pub speed : g .speed ≤ 10000
+  pub location : g .location ≤ farthest
+  pub speed : g .speed ≤ targets.fastest
 
 -- n records
 pub record Sound (n : ℕ) (f : ℕ → Target) : Type 0 where

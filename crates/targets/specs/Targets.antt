@@ -5,6 +5,7 @@ use mathlib.Core.Bool.{Bool, true, _&&_}
 use lib.ListN.{length, getD}
 use lib.Dec.{leb, eqb}
 use Rattle.bits.specs.Tables.{upTo}
+use Rattle.record.specs.Location.{farthest}
 use Rattle.refusal.specs.Lowest.{Rule}
 use Rattle.refusal.specs.declared.Refusal.the-variants.{BrokenTargets}
 use Rattle.refusal.specs.declared.Verdict.{Verdict}
@@ -37,9 +38,13 @@ ofFields fs = record { location = getD fs 0 0; speed = getD fs 1 0 }
 
 -- ---- the rules
 
--- location (at most 4,000,000), speed (0 to 10,000)
+-- speed (0 to 10,000)
+abbrev pub fastest : ℕ
+fastest = 10000
+
+-- location (at most 4,000,000)
 unfoldable pub inRange : Target → Bool
-inRange g = leb (g .location) 4000000 && leb (g .speed) 10000
+inRange g = leb (g .location) farthest && leb (g .speed) fastest
 
 -- no bit is spare; locations strictly rise; the last one is as the others
 -- 7: the targets break any rule above, their byte count included
@@ -76,8 +81,8 @@ locationsIn t n = upTo n (λ k. targetAt t k .location)
 abbrev pub speedsIn : List ℕ → ℕ → List ℕ
 speedsIn t n = upTo n (λ k. targetAt t k .speed)
 
-abbrev pub keptIn : List ℕ → Bool
-keptIn = table.keptIn targets
+abbrev pub lawfulIn : List ℕ → Bool
+lawfulIn = table.lawfulIn targets
 
 abbrev pub brokenIn : List ℕ → Bool
 brokenIn = table.brokenIn targets
@@ -103,8 +108,8 @@ bytesOf = table.bytesOf targets
 abbrev pub same : List ℕ → List ℕ → Bool
 same locations speeds = eqb (length speeds) (length locations)
 
-abbrev pub keptOf : List ℕ → List ℕ → Bool
-keptOf locations speeds = table.keptOf targets (same locations speeds) (length locations) (targetOf locations speeds)
+abbrev pub lawfulOf : List ℕ → List ℕ → Bool
+lawfulOf locations speeds = table.lawfulOf targets (same locations speeds) (length locations) (targetOf locations speeds)
 
 abbrev pub writeRules : List ℕ → List ℕ → List ℕ → List Rule
 writeRules locations speeds = table.writeRules targets (same locations speeds) (length locations) (targetOf locations speeds)

@@ -9,7 +9,7 @@ ghost use lib.ListN.{length};
 ghost use lib.Dec.{eqb, ltb};
 ghost use Rattle.bits.specs.Places.{putFrom};
 ghost use Rattle.refusal.specs.Number.{told};
-ghost use Rattle.targets.specs.Targets.{widths, fieldsOf, inRange, targetAt, broken, judgeTargets, targetOf, keptOf, writeTargets};
+ghost use Rattle.targets.specs.Targets.{widths, fieldsOf, inRange, targetAt, broken, judgeTargets, targetOf, lawfulOf, writeTargets};
 
 pub struct Target {
     // feet
@@ -24,8 +24,6 @@ impl Target {
     // The most records.
     pub const MOST: usize = 8;
 
-    // The greatest location.
-    pub const FARTHEST: u32 = 4_000_000;
     // The greatest speed.
     pub const FASTEST: u16 = 10_000;
 }
@@ -51,7 +49,7 @@ pub fn target_at(t: &[u8], k: usize) -> Target
 fn good_after(g: Target, k: usize, before: u32) -> bool
     ensures { λ r. ⌜ r ≡ (inRange g && (eqb k 0 || ltb before (g .location))) ⌝ }
 {
-    (g.location <= Target::FARTHEST)
+    (g.location <= record::FARTHEST)
         & (g.speed <= Target::FASTEST)
         & ((k == 0) | (before < g.location))
 }
@@ -101,7 +99,7 @@ fn row_at(locations: &[u32], speeds: &[u16], k: usize) -> Target
 
 // Whether two lists keep every rule of the targets.
 fn rows_keep(locations: &[u32], speeds: &[u16]) -> bool
-    ensures { λ r. ⌜ r ≡ keptOf (now (locations .entry)) (now (speeds .entry)) ⌝ }
+    ensures { λ r. ⌜ r ≡ lawfulOf (now (locations .entry)) (now (speeds .entry)) ⌝ }
 {
     let n = locations.len();
     if !((speeds.len() == n) & (n <= Target::MOST)) {

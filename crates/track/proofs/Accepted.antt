@@ -7,7 +7,7 @@ use mathlib.Core.List.{List}
 use Rattle.refusal.specs.declared.Verdict.the-variants.{Accepted}
 use Rattle.profile.specs.Profile.{most, judgeProfile}
 use Rattle.profile.specs.Sound.{Ranged}
-use Rattle.profile.proofs.Sound.{past-last, judged-kept, judged-sound}
+use Rattle.profile.proofs.Sound.{past-last, judged-lawful, judged-sound}
 use Rattle.track.specs.Track.{layOf, at}
 use Rattle.track.specs.Gentle.{Gentle}
 use Rattle.track.proofs.Lay.{nothing, lay-at, lay-past}
@@ -22,7 +22,7 @@ module _ (p : List ℕ) (n : ℕ) (h : judgeProfile p ≡ (Accepted, n)) where
 
       by : Dec (k < n) → Dec (k < most) → Ranged (at (layOf p) k)
       by (yes a) (yes b) = subst Ranged (sym (lay-at p k b)) (judged-sound p n h .each k a)
-      by (no a) (yes b) = subst Ranged (sym (lay-at p k b)) (subst Ranged (sym (past-last p k (omega (arith, judged-kept p n h .1)))) zeros)
+      by (no a) (yes b) = subst Ranged (sym (lay-at p k b)) (subst Ranged (sym (past-last p k (omega (arith, judged-lawful p n h .1)))) zeros)
       by d (no b) = subst Ranged (sym (lay-past p k (omega arith))) zeros
 
   pub lay-gentle : Gentle (layOf p)

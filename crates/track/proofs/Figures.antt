@@ -2,25 +2,24 @@
 use mathlib.Core.Path.{refl}
 use Rattle.whole.specs.Floor.{floorDiv}
 use Rattle.table.proofs.Computing.{computing}
-use Rattle.track.specs.Track.{layOf, feet, gradeFeet, curveFeet, gradeUnder, curveUnder}
+use Rattle.track.specs.Track.{layOf, feet, gradeFeet, curvatureFeet, gradeUnder, curvatureUnder}
 use Rattle.track.specs.Figures.{Figures}
 
 pub figures : Figures
-unfolding computing floorDiv layOf feet gradeFeet curveFeet gradeUnder curveUnder
+unfolding computing floorDiv layOf feet gradeFeet curvatureFeet gradeUnder curvatureUnder
 figures = record {
-  dip-grade = refl;
-  dip-curve = refl;
+  dip-curvature = refl;
   laid-grade = refl;
-  laid-curve = refl;
+  laid-curvature = refl;
   one-grade = refl;
-  one-curve = refl;
+  one-curvature = refl;
   two-grade = refl;
-  two-curve = refl;
+  two-curvature = refl;
   three-grade = refl;
-  three-curve = refl;
+  three-curvature = refl;
   before-grade = refl;
   long-grade = refl;
   beyond-grade = refl;
   no-length-grade = refl;
-  no-length-curve = refl;
+  no-length-curvature = refl;
 }

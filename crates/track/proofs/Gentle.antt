@@ -6,7 +6,7 @@ use lib.IntN.{pos, natAbs, _*ℤ_}
 use Rattle.whole.proofs.Size.{abs-add, abs-times}
 use Rattle.whole.proofs.Floors.{floor-most}
 use Rattle.track.specs.declared.Track.{Track}
-use Rattle.track.specs.Track.{at, feet, gradeFeet, curveFeet, segments, gradeUnder, curveUnder}
+use Rattle.track.specs.Track.{at, feet, gradeFeet, curvatureFeet, segments, gradeUnder, curvatureUnder}
 use Rattle.track.specs.Gentle.{Gentle}
 
 module _ (t : Track) (gentle : Gentle t) (head length : ℕ) where
@@ -22,10 +22,10 @@ module _ (t : Track) (gentle : Gentle t) (head length : ℕ) where
       let g = at t n .grade in
       omega (arith, abs-add (gradeFeet t (head - length) head n) (pos f *ℤ g), abs-times f g, mul-le-mul (feet-most n) (gentle .grade n), grade-feet-most n)
 
-  curve-feet-most : (n : ℕ) → curveFeet t (head - length) head n ≤ n * (length * 2000)
-  unfolding curveFeet
-  curve-feet-most zero = omega arith
-  curve-feet-most (suc n) = omega (arith, mul-le-mul (feet-most n) (gentle .curvature n), curve-feet-most n)
+  curvature-feet-most : (n : ℕ) → curvatureFeet t (head - length) head n ≤ n * (length * 2000)
+  unfolding curvatureFeet
+  curvature-feet-most zero = omega arith
+  curvature-feet-most (suc n) = omega (arith, mul-le-mul (feet-most n) (gentle .curvature n), curvature-feet-most n)
 
   segments-most : (m : ℕ) → segments t * m ≤ 256 * m
   segments-most m = let h : segments t ≤ 256 = omega arith in mul-le-mul-right m h
@@ -34,6 +34,6 @@ module _ (t : Track) (gentle : Gentle t) (head length : ℕ) where
   unfolding gradeUnder
   gentle-grade = floor-most _ length 128000 (omega (arith, grade-feet-most (segments t), segments-most (length * 500)))
 
-  pub gentle-curve : curveUnder t head length ≤ 512000
-  unfolding curveUnder
-  gentle-curve = div-le-of-le-mul length (omega (arith, curve-feet-most (segments t), segments-most (length * 2000)))
+  pub gentle-curvature : curvatureUnder t head length ≤ 512000
+  unfolding curvatureUnder
+  gentle-curvature = div-le-of-le-mul length (omega (arith, curvature-feet-most (segments t), segments-most (length * 2000)))

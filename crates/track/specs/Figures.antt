@@ -4,7 +4,7 @@ use Prim.Native.Nat.{ℕ}
 use mathlib.Core.List.{List, [], _∷_}
 use lib.IntN.{pos, negsuc}
 use Rattle.track.specs.declared.Track.{Track}
-use Rattle.track.specs.Track.{layOf, gradeUnder, curveUnder}
+use Rattle.track.specs.Track.{layOf, gradeUnder, curvatureUnder}
 
 -- 51 ft at 50 and 49 ft at -53; -53 is `negsuc 52`
 abbrev pub dip : Track
@@ -24,20 +24,19 @@ hill = record {
 }
 
 pub record Figures : Type 0 where
-  -- "51 ft at 50 and 49 ft at -53, length 100: G -1"
-  pub dip-grade : gradeUnder dip 100 100 ≡ negsuc 0
-  pub dip-curve : curveUnder dip 100 100 ≡ 149
+  -- the whole of it: its curvature, and both from its bytes
+  pub dip-curvature : curvatureUnder dip 100 100 ≡ 149
   pub laid-grade : gradeUnder (layOf dipBytes) 100 100 ≡ negsuc 0
-  pub laid-curve : curveUnder (layOf dipBytes) 100 100 ≡ 149
+  pub laid-curvature : curvatureUnder (layOf dipBytes) 100 100 ≡ 149
   -- on one segment
   pub one-grade : gradeUnder dip 40 30 ≡ pos 50
-  pub one-curve : curveUnder dip 40 30 ≡ 100
+  pub one-curvature : curvatureUnder dip 40 30 ≡ 100
   -- across two: 10 ft of each
   pub two-grade : gradeUnder dip 61 20 ≡ negsuc 1
-  pub two-curve : curveUnder dip 61 20 ≡ 150
+  pub two-curvature : curvatureUnder dip 61 20 ≡ 150
   -- across three: 10, 20 and 30 ft
   pub three-grade : gradeUnder hill 70 60 ≡ pos 33
-  pub three-curve : curveUnder hill 70 60 ≡ 20
+  pub three-curvature : curvatureUnder hill 70 60 ≡ 20
   -- ten of its twenty feet lie before the first start
   pub before-grade : gradeUnder hill 20 20 ≡ pos 150
   -- longer than where its head is
@@ -46,4 +45,4 @@ pub record Figures : Type 0 where
   pub beyond-grade : gradeUnder hill 170 100 ≡ pos 0
   -- no length
   pub no-length-grade : gradeUnder hill 70 0 ≡ pos 0
-  pub no-length-curve : curveUnder hill 70 0 ≡ 0
+  pub no-length-curvature : curvatureUnder hill 70 0 ≡ 0

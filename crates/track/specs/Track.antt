@@ -37,9 +37,9 @@ gradeFeet t rear head zero = pos 0
 gradeFeet t rear head (suc n) = gradeFeet t rear head n +ℤ pos (feet t rear head n) *ℤ at t n .grade
 
 -- the sum of curvature × feet
-unfoldable pub curveFeet : Track → ℕ → ℕ → ℕ → ℕ
-curveFeet t rear head zero = 0
-curveFeet t rear head (suc n) = curveFeet t rear head n + feet t rear head n * at t n .curvature
+unfoldable pub curvatureFeet : Track → ℕ → ℕ → ℕ → ℕ
+curvatureFeet t rear head zero = 0
+curvatureFeet t rear head (suc n) = curvatureFeet t rear head n + feet t rear head n * at t n .curvature
 
 -- "The last only ends the profile": one segment fewer than records, and of these no more than a profile may have
 abbrev pub segments : Track → ℕ
@@ -50,8 +50,8 @@ unfoldable pub gradeUnder : Track → ℕ → ℕ → ℤ
 gradeUnder t head length = floorDiv (gradeFeet t (head - length) head (segments t)) (pos length)
 
 -- C: over its length, down
-unfoldable pub curveUnder : Track → ℕ → ℕ → ℕ
-curveUnder t head length = curveFeet t (head - length) head (segments t) / length
+unfoldable pub curvatureUnder : Track → ℕ → ℕ → ℕ
+curvatureUnder t head length = curvatureFeet t (head - length) head (segments t) / length
 
 abbrev pub underOf : Track → ℕ → ℕ → Under
-underOf t head length = record { grade = gradeUnder t head length; curvature = curveUnder t head length }
+underOf t head length = record { grade = gradeUnder t head length; curvature = curvatureUnder t head length }

@@ -7,7 +7,7 @@ ghost use lib.IntN.{pos};
 ghost use Rattle.whole.specs.Floor.{floorDiv};
 ghost use Rattle.profile.specs.Profile.{most};
 ghost use Rattle.track.specs.Track.{layOf, underOf};
-ghost use Rattle.track.specs.Steps.{trackOf, sumsUnder, Within, Plus};
+ghost use Rattle.track.specs.Steps.{trackOf, sumsUnder, Sized, Plus};
 
 // A profile laid out: record k at place k of each array.
 pub struct Track {
@@ -33,7 +33,7 @@ struct Sums {
 fn records(n: usize) -> usize
     ensures { λ r. ⌜ r ≡ min n most ⌝ }
 {
-    if n < Segment::MOST { n } else { Segment::MOST }
+    whole::lesser(n as u64, Segment::MOST as u64) as usize
 }
 
 impl Track {
@@ -68,36 +68,23 @@ impl Track {
 fn segments(n: usize) -> usize
     ensures { λ r. ⌜ r ≡ min n most - 1 ⌝ }
 {
-    let count = records(n);
-    if 0 < count { count - 1 } else { 0 }
-}
-
-fn lesser(a: u32, b: u32) -> u32
-    ensures { λ r. ⌜ r ≡ min a b ⌝ }
-{
-    if a < b { a } else { b }
-}
-
-fn greater(a: u32, b: u32) -> u32
-    ensures { λ r. ⌜ r ≡ max a b ⌝ }
-{
-    if a < b { b } else { a }
+    whole::above(records(n) as u64, 1) as usize
 }
 
 // Where the rear is; a train longer than where its head is begins at 0.
 fn rear_of(head: u32, length: u32) -> u32
     ensures { λ r. ⌜ r ≡ head - length ⌝ }
 {
-    if length < head { head - length } else { 0 }
+    whole::above(head as u64, length as u64) as u32
 }
 
 // The feet of a segment that lie under the train.
 fn feet_under(rear: u32, head: u32, from: u32, to: u32) -> u32
     ensures { λ r. ⌜ r ≡ min head to - max rear from ⌝ }
 {
-    let first = greater(rear, from);
-    let last = lesser(head, to);
-    if first < last { last - first } else { 0 }
+    let first = whole::greater(rear as u64, from as u64);
+    let last = whole::lesser(head as u64, to as u64);
+    whole::above(last, first) as u32
 }
 
 // G: a sum over the train's length, down.
@@ -118,7 +105,7 @@ fn curvature_over(sum: u64, length: u32) -> u64
 impl Sums {
     // A segment more.
     fn plus(self, feet: u32, grade: i16, curvature: u16) -> Sums
-        requires { ⌜ Within most self ⌝ }
+        requires { ⌜ Sized most self ⌝ }
         ensures { λ r. ⌜ Plus self feet grade curvature r ⌝ }
     {
         Sums {

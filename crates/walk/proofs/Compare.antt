@@ -16,7 +16,7 @@ use Rattle.whole.proofs.Roots.{root-mono, root-grows, root-pos}
 use Rattle.consist.specs.declared.Consist.{Consist}
 use Rattle.walk.specs.declared.Run.{Run}
 use Rattle.walk.specs.Step.{Ground, opposing, loss, stepTime, stepOf}
-use Rattle.walk.specs.Walk.{Place, at, never, tooFast, placeBy, walkTo, placeFor}
+use Rattle.walk.specs.Walk.{Arrival, at, never, tooFast, arrivalBy, walkTo, arrivalFor}
 use Rattle.walk.specs.Compare.{NotShort, Weaker, Alike, Heavy, Ahead, StaysAhead, NeverShort}
 use Rattle.walk.proofs.Equations.{walk-fast, walk-at, walk-never, walk-on}
 use Rattle.walk.proofs.Force.{div-le}
@@ -79,14 +79,14 @@ stays-ahead c d f g ground r s heavy alike weaker ahead some =
       clock = omega (arith, ahead .clock, time-falls (s .q) (r .q) some (ahead .q));
       q =
           rw (ahead .head, eq)
-          (keeps-more c d heavy alike (f (r .clock)) (g (s .clock)) (rootOf (s .q + e)) (rootOf (s .q)) (s .q) e (ground .curve (s .head))
+          (keeps-more c d heavy alike (f (r .clock)) (g (s .clock)) (rootOf (s .q + e)) (rootOf (s .q)) (s .q) e (ground .curvature (s .head))
           (ground .grade (s .head)) (le-trans (weaker .first-grows _ _ (ahead .clock)) (weaker .below _)) (root-grows (s .q) e));
     }
 
 -- ---- the walk
 
--- no walk comes to a place short of its start
-verdict-from : (h m : ℕ) (a b : Bool) (rest : Place) → h ≤ m → NotShort rest (at h) → NotShort (placeBy a b m rest) (at h)
+-- no walk arrives short of its start
+verdict-from : (h m : ℕ) (a b : Bool) (rest : Arrival) → h ≤ m → NotShort rest (at h) → NotShort (arrivalBy a b m rest) (at h)
 verdict-from h m true b rest l r = tt
 verdict-from h m false true rest l r = l
 verdict-from h m false false rest l r = r
@@ -102,9 +102,9 @@ module _ (c d : Consist) (f g : ℕ → ℕ) (ground : Ground) (limit : ℕ) whe
   abbrev InOrder : ℕ → Run → Run → Type 0
   InOrder n r s = NotShort (walkTo c f ground limit n r) (walkTo d g ground limit n s)
 
-  -- at one place, given the order where both go on
-  at-place : (n : ℕ) (r s : Run) → Ahead r s → (r .q ≤ 1000000000 → limit < s .q → limit < r .q → InOrder n r s) → InOrder n r s
-  at-place n r s ahead on = quick (ltb 1000000000 (r .q)) refl
+  -- at one step, given the order where both go on
+  at-arrival : (n : ℕ) (r s : Run) → Ahead r s → (r .q ≤ 1000000000 → limit < s .q → limit < r .q → InOrder n r s) → InOrder n r s
+  at-arrival n r s ahead on = quick (ltb 1000000000 (r .q)) refl
     where
       slow : r .q ≤ 1000000000 → (t : Bool) → leb (s .q) limit ≡ t → InOrder n r s
       slow k true e = rw (walk-at d g ground limit s n (omega arith) (leb-true _ _ e)) (walk-from c f ground limit n r (s .head) (omega arith))
@@ -117,14 +117,14 @@ module _ (c d : Consist) (f g : ℕ → ℕ) (ground : Ground) (limit : ℕ) whe
   in-order : Heavy c → Alike c d → Weaker f g → (n : ℕ) (r s : Run) → Ahead r s → InOrder n r s
   unfolding StaysAhead
   in-order heavy alike weaker zero r s ahead =
-      at-place zero r s ahead (λ k b a. rw (walk-never c f ground limit r k a, walk-never d g ground limit s (omega arith) b) tt)
+      at-arrival zero r s ahead (λ k b a. rw (walk-never c f ground limit r k a, walk-never d g ground limit s (omega arith) b) tt)
   in-order heavy alike weaker (suc n) r s ahead =
       let ih = in-order heavy alike weaker n (stepOf c f ground r) (stepOf d g ground s) in
       let next : (0 < s .q) → Ahead (stepOf c f ground r) (stepOf d g ground s) = stays-ahead c d f g ground r s heavy alike weaker ahead in
-      at-place (suc n) r s ahead
+      at-arrival (suc n) r s ahead
       (λ k b a. rw (walk-on c f ground limit r n k a, walk-on d g ground limit s n (omega arith) b) (ih (next (omega arith))))
 
 pub never-short : NeverShort
-unfolding NeverShort placeFor
+unfolding NeverShort arrivalFor
 never-short c d f g ground head v w u heavy alike weaker l =
     in-order c d f g ground (u * u) heavy alike weaker 2048 _ _ (record { head = refl; q = mul-le-mul l l; clock = le-refl 0 })

@@ -1,4 +1,4 @@
--- The walk's four answers at one place: too fast; slow enough; none at the last step; or it goes on. Assumes nothing.
+-- The walk's four answers at one step: too fast; slow enough; none at the last step; or it goes on. Assumes nothing.
 use mathlib.Core.Path.{_≡_}
 use Prim.Native.Nat.{ℕ, zero, suc, _≤_, _<_}
 use borrow.Author.Tests.{lt-ltb, le-ltb, le-leb, lt-leb}

@@ -29,7 +29,7 @@ force-le p r k j s t rated base gain drop =
 -- as the clock runs
 drop-grows : (k : Curve) (s t : ℕ) → s ≤ t → dropAt k s ≤ dropAt k t
 unfolding dropAt
-drop-grows k s t h = omega (arith, div-grows (k .num * s) (k .num * t) (k .den) (mul-le-mul-left (k .num) h))
+drop-grows k s t h = omega (arith, div-grows (k .slope * s) (k .slope * t) (k .per) (mul-le-mul-left (k .slope) h))
 
 pub force-grows : (rated : ℕ) (k : Curve) (s t : ℕ) → s ≤ t → forceAt rated k s ≤ forceAt rated k t
 force-grows rated k s t h = force-le rated rated k k s t (le-refl _) (le-refl _) (le-refl _) (drop-grows k s t h)

@@ -8,11 +8,11 @@ use borrow.Author.Tests.{le-leb}
 use Rattle.whole.specs.Floor.{cut}
 use Rattle.consist.specs.declared.Consist.{Consist}
 use Rattle.walk.specs.Step.{Ground, stepOf}
-use Rattle.walk.specs.Walk.{Place, at, never, tooFast, placeBy, walkTo, placeFor}
+use Rattle.walk.specs.Walk.{Arrival, at, never, tooFast, arrivalBy, walkTo, arrivalFor}
 use Rattle.walk.specs.Literal.{stepZ, walkZ, Literally}
 
 -- a squared speed below zero is at most any limit
-below : (limit h : ℕ) (rest : Place) → at h ≡ placeBy (ltb 1000000000 0) (leb 0 limit) h rest
+below : (limit h : ℕ) (rest : Arrival) → at h ≡ arrivalBy (ltb 1000000000 0) (leb 0 limit) h rest
 below limit h rest = rw (le-leb 0 limit (omega arith))
 
 same : (c : Consist) (force : ℕ → ℕ) (ground : Ground) (limit n head clock : ℕ) (q : ℤ) →
@@ -22,9 +22,9 @@ unfolding walkZ walkTo stepZ stepOf tooFast
 same c force ground limit zero head clock (pos a) = refl
 same c force ground limit zero head clock (negsuc a) = below limit head never
 same c force ground limit (suc n) head clock (pos a) =
-    ap (placeBy (ltb 1000000000 a) (leb a limit) head) (same c force ground limit n _ _ _)
+    ap (arrivalBy (ltb 1000000000 a) (leb a limit) head) (same c force ground limit n _ _ _)
 same c force ground limit (suc n) head clock (negsuc a) = below limit head _
 
 pub literally : Literally
-unfolding Literally placeFor
+unfolding Literally arrivalFor
 literally c force ground head v u = same c force ground (u * u) 2048 head 0 (pos (v * v))

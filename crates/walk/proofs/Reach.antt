@@ -6,20 +6,21 @@ use Prim.Native.Nat.{ℕ, zero, suc, _+_, _*_, _≤_}
 use native.Mathlib.Nat.{le-refl, mul-le-mul}
 use native.Mathlib.Omega.{arith}
 use lib.Dec.{leb}
+use Rattle.record.specs.Location.{noStop}
 use Rattle.consist.specs.declared.Consist.{Consist}
 use Rattle.walk.specs.declared.Run.{Run}
 use Rattle.walk.specs.Step.{Ground, stepOf}
-use Rattle.walk.specs.Walk.{Place, at, never, fast, tooFast, placeBy, walkTo, start, placeFor, locationOf}
+use Rattle.walk.specs.Walk.{reach, Arrival, at, never, fast, tooFast, arrivalBy, walkTo, start, arrivalFor, locationOf}
 use Rattle.walk.specs.Compare.{NotShort}
 use Rattle.walk.proofs.Equations.{walk-at}
 
 -- a location, where there is one, is at most m
-abbrev pub NoFurther : ℕ → Place → Type 0
+abbrev pub NoFurther : ℕ → Arrival → Type 0
 NoFurther m (at h) = h ≤ m
 NoFurther m never = Unit {0}
 NoFurther m fast = Unit {0}
 
-verdict-no-further : (m h : ℕ) (a b : Bool) (rest : Place) → h ≤ m → NoFurther m rest → NoFurther m (placeBy a b h rest)
+verdict-no-further : (m h : ℕ) (a b : Bool) (rest : Arrival) → h ≤ m → NoFurther m rest → NoFurther m (arrivalBy a b h rest)
 verdict-no-further m h true b rest l r = tt
 verdict-no-further m h false true rest l r = l
 verdict-no-further m h false false rest l r = r
@@ -31,18 +32,17 @@ module _ (c : Consist) (force : ℕ → ℕ) (ground : Ground) where
   walk-no-further limit m (suc n) r h =
       verdict-no-further m (r .head) (tooFast (r .q)) (leb (r .q) limit) _ (omega arith) (walk-no-further limit m n (stepOf c force ground r) (omega arith))
 
-  -- 2,048 steps of 16 ft
-  pub place-no-further : (head v u m : ℕ) → head + 32768 ≤ m → NoFurther m (placeFor c force ground head v u)
-  unfolding placeFor
-  place-no-further head v u m h = walk-no-further (u * u) m 2048 (start head v) h
+  pub arrival-no-further : (head v u m : ℕ) → head + reach ≤ m → NoFurther m (arrivalFor c force ground head v u)
+  unfolding arrivalFor
+  arrival-no-further head v u m h = walk-no-further (u * u) m 2048 (start head v) h
 
   -- a train that is no faster than u is there at once
-  pub place-at-head : (head v u : ℕ) → v * v ≤ 1000000000 → v ≤ u → placeFor c force ground head v u ≡ at head
-  unfolding placeFor
-  place-at-head head v u slow h = walk-at c force ground (u * u) (start head v) 2048 slow (mul-le-mul h h)
+  pub arrival-at-head : (head v u : ℕ) → v * v ≤ 1000000000 → v ≤ u → arrivalFor c force ground head v u ≡ at head
+  unfolding arrivalFor
+  arrival-at-head head v u slow h = walk-at c force ground (u * u) (start head v) 2048 slow (mul-le-mul h h)
 
--- the order of places is that of their numbers
-pub location-order : (x y : Place) → NotShort x y → NoFurther 16777215 y → locationOf y ≤ locationOf x
+-- the order of arrivals is that of their numbers
+pub location-order : (x y : Arrival) → NotShort x y → NoFurther noStop y → locationOf y ≤ locationOf x
 location-order fast (at y) h w = w
 location-order fast never h w = le-refl _
 location-order fast fast h w = le-refl _

@@ -4,10 +4,10 @@ use Prim.Native.Nat.{ℕ, _*_, _≤_, _<_}
 use Rattle.consist.specs.declared.Consist.{Consist}
 use Rattle.walk.specs.declared.Run.{Run}
 use Rattle.walk.specs.Step.{Ground, stepOf}
-use Rattle.walk.specs.Walk.{Place, at, never, fast, placeFor}
+use Rattle.walk.specs.Walk.{Arrival, at, never, fast, arrivalFor}
 
--- the first place is not short of the second: none is beyond every location, and a walk that is too fast is beyond both
-abbrev pub NotShort : Place → Place → Type 0
+-- the first arrival is not short of the second: none is beyond every location, and a walk that is too fast is beyond both
+abbrev pub NotShort : Arrival → Arrival → Type 0
 NotShort fast y = Unit {0}
 NotShort never (at y) = Unit {0}
 NotShort never never = Unit {0}
@@ -49,4 +49,4 @@ StaysAhead =
 unfoldable pub NeverShort : Type 0
 NeverShort =
     (c d : Consist) (f g : ℕ → ℕ) (ground : Ground) (head v w u : ℕ) → Heavy c → Alike c d → Weaker f g → w ≤ v →
-    NotShort (placeFor c f ground head v u) (placeFor d g ground head w u)
+    NotShort (arrivalFor c f ground head v u) (arrivalFor d g ground head w u)

@@ -1,11 +1,12 @@
 -- The brake curve: what makes the brake force as the walk's clock runs. Definitions only.
 use Prim.Native.Nat.{ℕ, _+_, _-_, _*_, _/_, min}
 use Rattle.consist.specs.declared.Consist.{Consist}
+use Rattle.brake.specs.Rules.{equalizationService}
 use Rattle.walk.specs.declared.Curve.{Curve}
 
 -- "Drop", down, not more than what the curve has
 unfoldable pub dropAt : Curve → ℕ → ℕ
-dropAt k t = min (k .num * t / k .den) (k .most)
+dropAt k t = min (k .slope * t / k .per) (k .most)
 
 -- "Cylinder p", down: the gain is in halves
 unfoldable pub cylinderAt : Curve → ℕ → ℕ
@@ -20,7 +21,7 @@ unfoldable pub penaltyCurve : Consist → ℕ → ℕ → Curve
 penaltyCurve c a b = record {
   base = b;
   gain = 5;
-  num = 2 * c .set;
-  den = 7 * c .application;
-  most = a - (5 * a + 2 * b) / 7;
+  slope = 2 * c .set;
+  per = 7 * c .application;
+  most = a - equalizationService a b;
 }

@@ -8,7 +8,7 @@ use Rattle.whole.specs.Floor.{cut}
 use Rattle.whole.specs.Root.{rootOf}
 use Rattle.consist.specs.declared.Consist.{Consist}
 use Rattle.walk.specs.Step.{Ground, loss, stepTime}
-use Rattle.walk.specs.Walk.{Place, never, placeBy, placeFor}
+use Rattle.walk.specs.Walk.{Arrival, never, arrivalBy, arrivalFor}
 
 pub record RunZ : Type 0 where
   pub head : ℕ
@@ -22,15 +22,15 @@ stepZ c force ground r =
     record {
       head = r .head + 16;
       clock = r .clock + stepTime (rootOf q);
-      q = r .q -ℤ loss c (force (r .clock)) (rootOf q) q (ground .grade (r .head)) (ground .curve (r .head));
+      q = r .q -ℤ loss c (force (r .clock)) (rootOf q) q (ground .grade (r .head)) (ground .curvature (r .head));
     }
 
 -- "The stopping location is the head when q first is 0 or less."
-unfoldable pub walkZ : Consist → (ℕ → ℕ) → Ground → ℕ → ℕ → RunZ → Place
-walkZ c force ground limit zero r = placeBy (ltZ (pos 1000000000) (r .q)) (leZ (r .q) (pos limit)) (r .head) never
+unfoldable pub walkZ : Consist → (ℕ → ℕ) → Ground → ℕ → ℕ → RunZ → Arrival
+walkZ c force ground limit zero r = arrivalBy (ltZ (pos 1000000000) (r .q)) (leZ (r .q) (pos limit)) (r .head) never
 walkZ c force ground limit (suc n) r =
-    let rest : Place = walkZ c force ground limit n (stepZ c force ground r) in
-    placeBy (ltZ (pos 1000000000) (r .q)) (leZ (r .q) (pos limit)) (r .head) rest
+    let rest : Arrival = walkZ c force ground limit n (stepZ c force ground r) in
+    arrivalBy (ltZ (pos 1000000000) (r .q)) (leZ (r .q) (pos limit)) (r .head) rest
 
 abbrev pub startZ : ℕ → ℕ → RunZ
 startZ head v = record { head = head; clock = 0; q = pos (v * v) }
@@ -38,4 +38,4 @@ startZ head v = record { head = head; clock = 0; q = pos (v * v) }
 unfoldable pub Literally : Type 0
 Literally =
     (c : Consist) (force : ℕ → ℕ) (ground : Ground) (head v u : ℕ) →
-    walkZ c force ground (u * u) 2048 (startZ head v) ≡ placeFor c force ground head v u
+    walkZ c force ground (u * u) 2048 (startZ head v) ≡ arrivalFor c force ground head v u

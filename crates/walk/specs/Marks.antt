@@ -5,32 +5,28 @@ use mathlib.Core.List.{List}
 use Prim.Native.Nat.{ℕ, _*_, _≤_, _<_}
 use lib.Dec.{leb, eqb}
 use lib.ListN.{length, getD}
+use Rattle.record.specs.Location.{noStop}
 use Rattle.targets.specs.Targets.{most}
 use Rattle.track.specs.declared.Under.{Under}
 use Rattle.walk.specs.declared.Run.{Run}
 use Rattle.walk.specs.declared.Prediction.{Prediction}
 use Rattle.walk.specs.Step.{Ground}
-use Rattle.walk.specs.Walk.{never, locationOf}
 
--- a place that is open: its speed is not reached
-abbrev pub none : ℕ
-none = locationOf never
-
--- the place for the speed u as the run comes by: open until the run is slow enough, and from then on its head there
+-- the arrival for the speed u as the run comes by: open, `noStop`, until the run is slow enough, and from then on its head there
 unfoldable pub markOf : Run → ℕ → ℕ → ℕ
-markOf r u place = cond (eqb place none && leb (r .q) (u * u)) (r .head) place
+markOf r u arrival = cond (eqb arrival noStop && leb (r .q) (u * u)) (r .head) arrival
 
 pub record Marked (r : Run) (speeds before after : List ℕ) : Type 0 where
   pub size : length after ≡ most
   pub each : (i : ℕ) → i < most → getD after i 0 ≡ markOf r (getD speeds i 0) (getD before i 0)
 
--- no place that is open is for a speed whose square is above `next`
-pub record Open (speeds places : List ℕ) (next : ℕ) : Type 0 where
-  pub below : (i : ℕ) → i < most → getD places i 0 ≡ none → getD speeds i 0 * getD speeds i 0 ≤ next
+-- no arrival that is open is for a speed whose square is above `next`
+pub record Open (speeds arrivals : List ℕ) (next : ℕ) : Type 0 where
+  pub below : (i : ℕ) → i < most → getD arrivals i 0 ≡ noStop → getD speeds i 0 * getD speeds i 0 ≤ next
 
 abbrev pub predictionWith : Bool → ℕ → List ℕ → Prediction
-predictionWith fast stop places = record { fast = fast; stop = stop; places = places }
+predictionWith fast stop arrivals = record { fast = fast; stop = stop; arrivals = arrivals }
 
 -- the ground that has these averages wherever the head is
 abbrev pub even : Under → Ground
-even u = record { grade = λ h. u .grade; curve = λ h. u .curvature }
+even u = record { grade = λ h. u .grade; curvature = λ h. u .curvature }

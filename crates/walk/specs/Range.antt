@@ -1,17 +1,19 @@
 -- The ranges in which every number of a walk fits its word. Definitions only.
-use Prim.Native.Nat.{ℕ, _*_, _≤_, _<_}
+use Prim.Native.Nat.{ℕ, _+_, _*_, _≤_, _<_}
 use lib.IntN.{natAbs}
+use Rattle.record.specs.Location.{farthest}
 use Rattle.consist.specs.declared.Consist.{Consist}
 use Rattle.track.specs.declared.Track.{Track}
 use Rattle.track.specs.declared.Under.{Under}
 use Rattle.track.specs.Gentle.{Gentle}
 use Rattle.walk.specs.declared.Curve.{Curve}
 use Rattle.walk.specs.declared.Run.{Run}
+use Rattle.walk.specs.Walk.{reach}
 
 -- a curve that divides by something, and whose pressures are those of a brake or above them: the bounds leave room for another curve
 pub record Braking (k : Curve) : Type 0 where
-  pub den : 0 < k .den
-  pub num : k .num ≤ 22000
+  pub per : 0 < k .per
+  pub slope : k .slope ≤ 22000
   pub most : k .most ≤ 11000
   pub gain : k .gain ≤ 12
   pub base : k .base ≤ 70000
@@ -43,7 +45,7 @@ pub record Moving (c : Consist) (k : Curve) (u : Under) (r : Run) : Type 0 where
   pub applied : Applied k (r .clock)
   pub grade : natAbs (u .grade) ≤ 128000
   pub curvature : u .curvature ≤ 512000
-  pub head : r .head ≤ 4032768
+  pub head : r .head ≤ farthest + reach
   pub some : 0 < r .q
   pub slow : r .q ≤ 1000000000
 
@@ -52,4 +54,4 @@ pub record Walkable (c : Consist) (k : Curve) (t : Track) (h : ℕ) : Type 0 whe
   pub rated : c .rated ≤ 10000000
   pub curve : Braking k
   pub track : Gentle t
-  pub head : h ≤ 4000000
+  pub head : h ≤ farthest

@@ -5,17 +5,17 @@ use Rattle.whole.specs.Floor.{floorDiv, cut}
 use Rattle.whole.specs.Root.{rootOf}
 use Rattle.consist.specs.declared.Consist.{Consist}
 use Rattle.track.specs.declared.Track.{Track}
-use Rattle.track.specs.Track.{gradeUnder, curveUnder}
+use Rattle.track.specs.Track.{gradeUnder, curvatureUnder}
 use Rattle.walk.specs.declared.Run.{Run}
 
 -- G and C by the head's location
 pub record Ground : Type 0 where
   pub grade : ℕ → ℤ
-  pub curve : ℕ → ℕ
+  pub curvature : ℕ → ℕ
 
 -- under a train of this length
 abbrev pub groundOf : Track → ℕ → Ground
-groundOf t length = record { grade = λ h. gradeUnder t h length; curve = λ h. curveUnder t h length }
+groundOf t length = record { grade = λ h. gradeUnder t h length; curvature = λ h. curvatureUnder t h length }
 
 -- "Opposing force in millionths of a lb: 1,000,000 F + 600,000 W + 20,000,000 n + 100 W s + 7 N q + 200,000 W G + 8,000 W C"
 unfoldable pub opposing : Consist → ℕ → ℕ → ℕ → ℤ → ℕ → ℤ
@@ -37,5 +37,5 @@ unfoldable pub stepOf : Consist → (ℕ → ℕ) → Ground → Run → Run
 stepOf c force ground r = record {
   head = r .head + 16;
   clock = r .clock + stepTime (rootOf (r .q));
-  q = cut (pos (r .q) -ℤ loss c (force (r .clock)) (rootOf (r .q)) (r .q) (ground .grade (r .head)) (ground .curve (r .head)));
+  q = cut (pos (r .q) -ℤ loss c (force (r .clock)) (rootOf (r .q)) (r .q) (ground .grade (r .head)) (ground .curvature (r .head)));
 }

@@ -6,25 +6,26 @@ use targets::Target;
 use track::Track;
 use track::Under;
 ghost use mathlib.Core.Path.{_≡_};
-ghost use Prim.Native.Nat.{_*_, _-_, _≤_, _<_, min};
+ghost use Prim.Native.Nat.{_*_, _≤_, _<_};
 ghost use lib.IntN.{pos, _-ℤ_};
 ghost use Rattle.whole.specs.Floor.{cut};
+ghost use Rattle.record.specs.Location.{noStop};
 ghost use Rattle.track.specs.Steps.{trackOf};
 ghost use Rattle.walk.specs.Curve.{dropAt, cylinderAt, forceAt, penaltyCurve};
 ghost use Rattle.walk.specs.Step.{opposing, loss, stepTime, stepOf, groundOf};
 ghost use Rattle.walk.specs.Walk.{start, predictOf};
 ghost use Rattle.walk.specs.Range.{Applied, Opposed, Moving, Walkable, rootMost};
-ghost use Rattle.walk.specs.Marks.{none, markOf, Marked, Open, predictionWith, even};
+ghost use Rattle.walk.specs.Marks.{markOf, Marked, Open, predictionWith, even};
 
-// A place whose speed is not reached, and the stop of a walk that has none.
-const NONE: u32 = 16_777_215;
+// How far a walk goes: 2,048 steps of 16 ft.
+pub const REACH: u64 = 32_768;
 
-// What the cylinder pressure does as the clock runs: base + gain × min(num × t / den, most) / 2.
+// What the cylinder pressure does as the clock runs: base + gain × min(slope × t / per, most) / 2.
 pub struct Curve {
     pub base: u64,
     pub gain: u64,
-    pub num: u64,
-    pub den: u64,
+    pub slope: u64,
+    pub per: u64,
     pub most: u64,
 }
 
@@ -39,20 +40,7 @@ pub struct Run {
 pub struct Prediction {
     pub fast: bool,
     pub stop: u32,
-    pub places: [u32; Target::MOST],
-}
-
-fn lesser(a: u64, b: u64) -> u64
-    ensures { λ r. ⌜ r ≡ min a b ⌝ }
-{
-    if a < b { a } else { b }
-}
-
-// What of a is above b.
-fn above(a: u64, b: u64) -> u64
-    ensures { λ r. ⌜ r ≡ a - b ⌝ }
-{
-    if b < a { a - b } else { 0 }
+    pub arrivals: [u32; Target::MOST],
 }
 
 impl Curve {
@@ -60,14 +48,13 @@ impl Curve {
     pub fn penalty(c: Consist, a: u16, b: u16) -> Curve
         ensures { λ r. ⌜ r ≡ penaltyCurve c a b ⌝ }
     {
-        let a = a as u64;
-        let b = b as u64;
+        let end = brake::equalization_service(a, b);
         Curve {
-            base: b,
+            base: b as u64,
             gain: 5,
-            num: 2 * c.set as u64,
-            den: 7 * c.application as u64,
-            most: above(a, (5 * a + 2 * b) / 7),
+            slope: 2 * c.set as u64,
+            per: 7 * c.application as u64,
+            most: whole::above(a as u64, end as u64),
         }
     }
 
@@ -76,7 +63,7 @@ impl Curve {
         requires { ⌜ Applied self t ⌝ }
         ensures { λ r. ⌜ r ≡ dropAt self t ⌝ }
     {
-        lesser(self.num * t / self.den, self.most)
+        whole::lesser(self.slope * t / self.per, self.most)
     }
 
     // p at the same time.
@@ -161,57 +148,64 @@ fn square(speed: u16) -> u64
     u * u
 }
 
-// The place of a target speed as the run comes by.
-fn mark(place: u32, speed: u16, run: Run) -> u32
-    ensures { λ r. ⌜ r ≡ markOf run speed place ⌝ }
+// The arrival of a target speed as the run comes by.
+fn mark(arrival: u32, speed: u16, run: Run) -> u32
+    ensures { λ r. ⌜ r ≡ markOf run speed arrival ⌝ }
 {
-    if (place == NONE) & (run.q <= square(speed)) {
+    if (arrival == record::NO_STOP) & (run.q <= square(speed)) {
         run.head
     } else {
-        place
+        arrival
     }
 }
 
-fn marked(places: [u32; Target::MOST], speeds: [u16; Target::MOST], run: Run) -> [u32; Target::MOST]
-    ensures { λ r. ⌜ Marked run speeds places r ⌝ }
+fn marked(
+    arrivals: [u32; Target::MOST],
+    speeds: [u16; Target::MOST],
+    run: Run,
+) -> [u32; Target::MOST]
+    ensures { λ r. ⌜ Marked run speeds arrivals r ⌝ }
 {
-    let mut places = places;
+    let mut arrivals = arrivals;
     let mut i: usize = 0;
     while i < Target::MOST {
-        places[i] = mark(places[i], speeds[i], run);
+        arrivals[i] = mark(arrivals[i], speeds[i], run);
         i += 1;
     }
-    places
+    arrivals
 }
 
-// The greater of `most` and the speed's square, if its place is open.
-fn raised(most: u64, place: u32, speed: u16) -> u64
-    ensures { λ r. ⌜ (most ≤ r) × (place ≡ none → speed * speed ≤ r) ⌝ }
+// The greater of `most` and the speed's square, if its arrival is open.
+fn raised(most: u64, arrival: u32, speed: u16) -> u64
+    ensures { λ r. ⌜ (most ≤ r) × (arrival ≡ noStop → speed * speed ≤ r) ⌝ }
 {
-    if place != NONE {
+    if arrival != record::NO_STOP {
         return most;
     }
-    let s = square(speed);
-    if most < s { s } else { most }
+    whole::greater(most, square(speed))
 }
 
-// The q at which the next place is to be marked.
-fn next_mark(places: [u32; Target::MOST], speeds: [u16; Target::MOST]) -> u64
-    ensures { λ r. ⌜ Open speeds places r ⌝ }
+// The q at which the next arrival is to be marked.
+fn next_mark(arrivals: [u32; Target::MOST], speeds: [u16; Target::MOST]) -> u64
+    ensures { λ r. ⌜ Open speeds arrivals r ⌝ }
 {
     let mut most: u64 = 0;
     let mut i: usize = 0;
     while i < Target::MOST {
-        most = raised(most, places[i], speeds[i]);
+        most = raised(most, arrivals[i], speeds[i]);
         i += 1;
     }
     most
 }
 
-fn predicted(fast: bool, stop: u32, places: [u32; Target::MOST]) -> Prediction
-    ensures { λ r. ⌜ r ≡ predictionWith fast stop places ⌝ }
+fn predicted(fast: bool, stop: u32, arrivals: [u32; Target::MOST]) -> Prediction
+    ensures { λ r. ⌜ r ≡ predictionWith fast stop arrivals ⌝ }
 {
-    Prediction { fast, stop, places }
+    Prediction {
+        fast,
+        stop,
+        arrivals,
+    }
 }
 
 fn started(head: u32, speed: u16) -> Run
@@ -241,23 +235,23 @@ fn pass<'a>(
 {
     let length = c.length as u32;
     let mut run = started(head, speed);
-    let mut places = [NONE; Target::MOST];
-    let mut next = next_mark(places, speeds);
+    let mut arrivals = [record::NO_STOP; Target::MOST];
+    let mut next = next_mark(arrivals, speeds);
     let mut n: u32 = 0;
     loop {
         if 1_000_000_000 < run.q {
-            return predicted(true, NONE, places);
+            return predicted(true, record::NO_STOP, arrivals);
         }
         if run.q <= next {
-            let now = marked(places, speeds, run);
-            places = now;
-            next = next_mark(places, speeds);
+            let now = marked(arrivals, speeds, run);
+            arrivals = now;
+            next = next_mark(arrivals, speeds);
         }
         if run.q == 0 {
-            return predicted(false, run.head, places);
+            return predicted(false, run.head, arrivals);
         }
         if n == 2_048 {
-            return predicted(false, NONE, places);
+            return predicted(false, record::NO_STOP, arrivals);
         }
         let u = track::under_train(count, starts, grades, curvatures, run.head, length);
         run = run.stepped(c, curve, u);

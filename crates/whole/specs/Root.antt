@@ -1,4 +1,4 @@
--- The whole square root. Assumes nothing.
+-- The whole square root. That `rootOf` is the root, `IsRoot`, and nothing else is, are `root-is` and `root-unique` of proofs/Roots.antt. Assumes nothing.
 use mathlib.Core.Bool.{cond}
 use Prim.Native.Nat.{ℕ, zero, suc, _+_, _*_, _/_, _^_, _≤_, _<_}
 use lib.Dec.{leb, eqb}

@@ -1,10 +1,31 @@
-// Division down and up to a whole number, and the whole square root. Every function answers for every input.
+// The lesser, the greater and the difference of natural numbers, division down and up to a whole number, and the whole square root.
+// Every function answers for every input.
 // Assumes nothing.
 
 ghost use mathlib.Core.Path.{_≡_};
+ghost use Prim.Native.Nat.{_-_, min, max};
 ghost use Rattle.whole.specs.Floor.{floorDiv};
 ghost use Rattle.whole.specs.Ceiling.{ceilDiv};
 ghost use Rattle.whole.specs.Root.{rootOf, AboveRoot};
+
+pub fn lesser(a: u64, b: u64) -> u64
+    ensures { λ r. ⌜ r ≡ min a b ⌝ }
+{
+    if a < b { a } else { b }
+}
+
+pub fn greater(a: u64, b: u64) -> u64
+    ensures { λ r. ⌜ r ≡ max a b ⌝ }
+{
+    if a < b { b } else { a }
+}
+
+// a minus b, 0 where b is higher.
+pub fn above(a: u64, b: u64) -> u64
+    ensures { λ r. ⌜ r ≡ a - b ⌝ }
+{
+    if b < a { a - b } else { 0 }
+}
 
 // The machine's quotient goes toward zero: where a remainder is left below zero, it is one too high.
 pub fn floor_div(a: i64, b: i64) -> i64

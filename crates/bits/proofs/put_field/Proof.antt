@@ -20,31 +20,17 @@ returns-2 c =
 
 returns-3 : tie.Need-returns-3
 returns-3 c =
-    let start = c .before .before .before .before .before .before .before .before .before .before in
+    let read = c .before .before .before .before .before in
+    let start = read .before .before .before .before .before in
     let a = start .before .args in
     put-place (now (a .out)) (a .first) (a .width) (λ i. start .slice-known .given i .fits) (omega arith) (omega arith) (a .value) _ _ _
-    (c .before .before .before .before .before .word .ensures) (c .before .before .before .before .replace .ensures) (c .before .before .put-word .ensures)
+    (read .word .ensures) (c .before .before .before .before .replace .ensures) (c .before .before .put-word .ensures)
 
 pub put-field-spec : {M : Type 1} → statement M
 put-field-spec =
     tie.close
     (tie.spec
     returns
-    (λ c. search needs)
-    (λ c. search needs)
-    (λ c. search needs)
-    returns-2
-    (λ c. search needs)
-    (λ c. search needs)
-    (λ c. search needs)
-    (λ c. search needs)
-    (λ c. search needs)
-    (λ c. search needs)
-    (λ c κs. search needs)
-    (λ c κs. search needs)
-    (λ c. search needs)
-    (λ c. search needs)
-    (λ c. search needs)
-    (λ c κs. search needs)
-    (λ c. search needs)
-    returns-3)
+    (λ c. search needs) (λ c. search needs) (λ c. search needs) returns-2
+    (λ c. search needs) (λ c. search needs) (λ c. search needs) (λ c. search needs) (λ c. search needs) (λ c. search needs) (λ c κs. search needs)
+    (λ c κs. search needs) (λ c. search needs) (λ c. search needs) (λ c. search needs) (λ c κs. search needs) (λ c. search needs) returns-3)

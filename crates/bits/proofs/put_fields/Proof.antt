@@ -22,21 +22,29 @@ abbrev μ-loop : tie.MeasureT-loop
 loop-holds : tie.Need-loop-holds Inv-loop μ-loop
 loop-holds c = (omega arith, refl, omega arith, refl)
 
+-- where a field is put, and the loop that puts it
+abbrev field : tie.After-shared-slice-known5 Inv-loop μ-loop → tie.After-put-field Inv-loop μ-loop
+field c = c .before .before .before
+
+abbrev at-loop : tie.After-put-field Inv-loop μ-loop → tie.At-loop Inv-loop μ-loop
+at-loop c = c .before .before .before .before .before
+
 add-at : tie.Need-add-at Inv-loop μ-loop
 add-at c =
-    let loop = c .before .before .before .before .before .before .before .before .loop in
-    omega (arith, total-next (now (c .before .before .before .before .before .before .before .before .before .before .before .before .args .widths)) (loop .i) (omega arith), loop .inv .2)
+    let at = at-loop (field c) in
+    omega (arith, total-next (now (at .before .before .before .before .args .widths)) (at .loop .i) (omega arith), at .loop .inv .2)
 
 loop-again : tie.Need-loop-again Inv-loop μ-loop
 loop-again c =
-    let start = c .before .before .before .before .before .before .before .before .before .before .before .before in
+    let put = field c .put-field in
+    let loop = at-loop (field c) .loop in
+    let start = at-loop (field c) .before .before .before .before in
     let ws = now (start .args .widths) in
-    let vs = now (start .args .values) in
-    let loop = c .before .before .before .before .before .before .before .before .loop in (
+    let vs = now (start .args .values) in (
       omega arith,
-      c .before .before .before .put-field .kept .0 ∙ loop .inv .1,
+      put .kept .0 ∙ loop .inv .1,
       omega (arith, total-next ws (loop .i) (omega arith), loop .inv .2),
-      put-next-field ws vs _ _ (loop .at) (loop .i) (omega arith) (start .pre .0) (c .before .before .before .put-field .ensures) ∙ loop .inv .3,
+      put-next-field ws vs _ _ (loop .at) (loop .i) (omega arith) (start .pre .0) (put .ensures) ∙ loop .inv .3,
     )
 
 same-length : tie.Need-same-length Inv-loop μ-loop
@@ -49,19 +57,8 @@ pub put-fields-spec : {M : Type 1} → statement M
 put-fields-spec =
     tie.close
     (tie.spec
-    Inv-loop
-    μ-loop
-    loop-holds
-    (λ c. search needs)
-    (λ c. omega arith)
-    (λ c. search needs)
-    (λ c. omega arith)
-    (λ c κs. search needs)
-    (λ c. search needs)
-    (λ c. omega arith)
-    add-at
-    (λ c. omega arith)
-    (λ c. omega arith)
-    loop-again
+    Inv-loop μ-loop loop-holds
+    (λ c. search needs) (λ c. omega arith) (λ c. search needs) (λ c. omega arith) (λ c κs. search needs) (λ c. search needs) (λ c. omega arith) add-at
+    (λ c. omega arith) (λ c. omega arith) loop-again
     same-length
     returns)

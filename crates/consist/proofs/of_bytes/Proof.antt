@@ -5,28 +5,23 @@ use Rattle.consist.proofs.of_bytes.Tie as tie
 
 returns : tie.Need-returns
 returns c =
-    rw (c .before .before .before .before .before .before .before .before .field .ensures .0, c .before .before .before .before .before .before .before .field2 .ensures .0, c .before .before .before .before .before .before .field3 .ensures .0, c .before .before .before .before .before .field4 .ensures .0, c .before .before .before .before .field5 .ensures .0, c .before .before .before .field6 .ensures .0, c .before .before .field7 .ensures .0, c .before .field8 .ensures .0, c .field9 .ensures .0)
+    let five = c .before .before .before .before in
+    rw (
+      five .before .before .before .before .field .ensures .0,
+      five .before .before .before .field2 .ensures .0,
+      five .before .before .field3 .ensures .0,
+      five .before .field4 .ensures .0,
+      five .field5 .ensures .0,
+      c .before .before .before .field6 .ensures .0,
+      c .before .before .field7 .ensures .0,
+      c .before .field8 .ensures .0,
+      c .field9 .ensures .0,
+    )
 
 pub of-bytes-spec : {M : Type 1} → statement M
 of-bytes-spec =
     tie.close
     (tie.spec
-    (λ c κs. search needs)
-    (λ c. search needs)
-    (λ c κs. search needs)
-    (λ c. search needs)
-    (λ c κs. search needs)
-    (λ c. search needs)
-    (λ c κs. search needs)
-    (λ c. search needs)
-    (λ c κs. search needs)
-    (λ c. search needs)
-    (λ c κs. search needs)
-    (λ c. search needs)
-    (λ c κs. search needs)
-    (λ c. search needs)
-    (λ c κs. search needs)
-    (λ c. search needs)
-    (λ c κs. search needs)
-    (λ c. search needs)
-    returns)
+    (λ c κs. search needs) (λ c. search needs) (λ c κs. search needs) (λ c. search needs) (λ c κs. search needs) (λ c. search needs)
+    (λ c κs. search needs) (λ c. search needs) (λ c κs. search needs) (λ c. search needs) (λ c κs. search needs) (λ c. search needs)
+    (λ c κs. search needs) (λ c. search needs) (λ c κs. search needs) (λ c. search needs) (λ c κs. search needs) (λ c. search needs) returns)

@@ -15,25 +15,32 @@ use Rattle.refusal.specs.declared.Verdict.the-variants.{Accepted}
 use Rattle.refusal.specs.Number.{told}
 use Rattle.refusal.proofs.Steps.{on-unless, off-unless}
 use Rattle.record.specs.Record.{wrongLength}
-use Rattle.decision.specs.Decision.{mark, widths, ofFields, decisionIn, wrongMark, outOfRange, answer}
+use Rattle.decision.specs.Decision.{size, mark, widths, ofFields, decisionIn, wrongMark, outOfRange, answer}
 use Rattle.decision.proofs.Answers.{read-is}
 use borrow.Author.Needs.{needs}
 use Rattle.decision.proofs.read.Statement.{statement}
 use Rattle.decision.proofs.read.Tie as tie
 
+abbrev given : tie.After-enum-told → List ℕ
+given c = now (c .before .before .before .before .args .s)
+
+-- past the length, where the mark is read
+abbrev marked : tie.After-enum-told3 → tie.After-enum-told
+marked c = c .before .before .before .before
+
 -- past the length: the fields that are read are those of the record
-past-length : (c : tie.After-enum-told) → (wrongLength 8 (now (c .before .before .before .before .args .s)) ≡ false) × (fieldsFrom 0 widths (now (c .before .before .before .before .args .s)) ≡ fieldsIn widths (now (c .before .before .before .before .args .s)))
+past-length : (c : tie.After-enum-told) → (wrongLength size (given c) ≡ false) × (fieldsFrom 0 widths (given c) ≡ fieldsIn widths (given c))
 unfolding wrongLength
 past-length c =
-    let s = now (c .before .before .before .before .args .s) in
+    let s = given c in
     let l = on-unless _ (sym (c .enum-told .given .1) ∙ c .before .before .unless .ensures) in
-    (l, fields-from 0 widths s tt (omega (arith, eqb-true (length s) 8 (not-false (eqb (length s) 8) l))))
+    (l, fields-from 0 widths s tt (omega (arith, eqb-true (length s) size (not-false (eqb (length s) size) l))))
 
 -- past the mark
-past-mark : (c : tie.After-enum-told3) → wrongMark (fieldsIn widths (now (c .before .before .before .before .before .before .before .before .args .s))) ≡ false
+past-mark : (c : tie.After-enum-told3) → wrongMark (fieldsIn widths (given (marked c))) ≡ false
 unfolding wrongMark
 past-mark c =
-    let l = past-length (c .before .before .before .before) in
+    let l = past-length (marked c) in
     ap (λ (fs : List ℕ). not (eqb (getD fs 0 0) mark)) (sym (l .1))
     ∙ ap (λ (x : ℕ). not (eqb x mark)) (sym (c .before .before .before .field .ensures .0))
     ∙ on-unless _ (sym (c .enum-told3 .given .1) ∙ c .before .before .unless2 .ensures)
@@ -56,39 +63,26 @@ returns-2 c =
 returns-3 : tie.Need-returns-3
 unfolding decisionIn
 returns-3 c =
-    let l = past-length (c .before .before .before .before .before .before .before .before .before .before) in
-    let d = c .before .before .before .before .before .of-bytes .ensures ∙ ap ofFields (l .1) in
+    let read = c .before .before .before .before .before in
+    let l = past-length (marked (read .before)) in
+    let d = read .of-bytes .ensures ∙ ap ofFields (l .1) in
     let r = sym (c .before .before .before .before .out-of-range .ensures ∙ ap outOfRange d) ∙ off-unless _ (sym (c .before .enum-told6 .given .1) ∙ c .before .before .before .unless3 .ensures) in
-    ap told (c .refused3 .ensures ∙ sym (read-is _ false false true (l .0) (past-mark (c .before .before .before .before .before .before)) r))
+    ap told (c .refused3 .ensures ∙ sym (read-is _ false false true (l .0) (past-mark (read .before)) r))
 
 returns-4 : tie.Need-returns-4
 unfolding decisionIn
 returns-4 c =
-    let l = past-length (c .before .before .before .before .before .before .before .before .before) in
-    let d = c .before .before .before .before .of-bytes .ensures ∙ ap ofFields (l .1) in
+    let read = c .before .before .before .before in
+    let l = past-length (marked (read .before)) in
+    let d = read .of-bytes .ensures ∙ ap ofFields (l .1) in
     let r = sym (c .before .before .before .out-of-range .ensures ∙ ap outOfRange d) ∙ on-unless _ (sym (c .enum-told5 .given .1) ∙ c .before .before .unless3 .ensures) in
-    ap told (ap (answer Accepted) d ∙ sym (read-is _ false false false (l .0) (past-mark (c .before .before .before .before .before)) r))
+    ap told (ap (answer Accepted) d ∙ sym (read-is _ false false false (l .0) (past-mark (read .before)) r))
 
 pub read-spec : {M : Type 1} → statement M
 read-spec =
     tie.close
     (tie.spec
-    (λ c κs. search needs)
-    (λ c. search needs)
-    (λ c. search needs)
-    (λ c κs. search needs)
-    returns
-    (λ c κs. search needs)
-    (λ c κs. search needs)
-    (λ c. search needs)
-    (λ c. search needs)
-    (λ c κs. search needs)
-    returns-2
-    (λ c κs. search needs)
-    (λ c κs. search needs)
-    (λ c κs. search needs)
-    (λ c. search needs)
-    (λ c. search needs)
-    (λ c κs. search needs)
-    returns-3
+    (λ c κs. search needs) (λ c. search needs) (λ c. search needs) (λ c κs. search needs) returns
+    (λ c κs. search needs) (λ c κs. search needs) (λ c. search needs) (λ c. search needs) (λ c κs. search needs) returns-2
+    (λ c κs. search needs) (λ c κs. search needs) (λ c κs. search needs) (λ c. search needs) (λ c. search needs) (λ c κs. search needs) returns-3
     returns-4)

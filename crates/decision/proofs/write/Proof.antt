@@ -11,14 +11,17 @@ use Rattle.refusal.specs.Written.{noRoom}
 use Rattle.refusal.specs.declared.Verdict.the-variants.{Accepted}
 use Rattle.refusal.specs.Number.{told}
 use Rattle.refusal.proofs.Steps.{on-unless, off-unless}
-use Rattle.decision.specs.Decision.{widths, fieldsOf, bytesOf, outOfRange}
+use Rattle.decision.specs.Decision.{size, widths, fieldsOf, bytesOf, outOfRange}
 use Rattle.decision.proofs.Answers.{write-is, fits}
 use borrow.Author.Needs.{needs}
 use Rattle.decision.proofs.write.Statement.{statement}
 use Rattle.decision.proofs.write.Tie as tie
 
--- past the ranges
-past-range : (c : tie.After-enum-told) → outOfRange (c .before .before .before .before .before .args .d) ≡ false
+-- at the start, and past the ranges
+abbrev begun : tie.After-enum-told → tie.After-slice-known
+begun c = c .before .before .before .before
+
+past-range : (c : tie.After-enum-told) → outOfRange (begun c .before .args .d) ≡ false
 past-range c = sym (c .before .before .before .out-of-range .ensures) ∙ on-unless _ (sym (c .enum-told .given .1) ∙ c .before .before .unless .ensures)
 
 returns : tie.Need-returns
@@ -34,30 +37,23 @@ returns-2 c =
 returns-3 : tie.Need-returns-3
 unfolding noRoom bytesOf
 returns-3 c =
-    let start = c .before .before .before .before .before .before .before .before .before .before .before in
+    let room = c .before .before .before .before in
+    let range = room .before .before .before in
+    let start = begun range in
     let d = start .before .args .d in
     let out = now (start .before .args .out) in
-    let r = past-range (c .before .before .before .before .before .before .before) in
-    let o : noRoom 8 out ≡ false = on-unless _ (sym (c .before .before .before .before .enum-told3 .given .1) ∙ c .before .before .before .before .before .before .unless2 .ensures) in
+    let r = past-range range in
+    let o : noRoom size out ≡ false = on-unless _ (sym (room .enum-told3 .given .1) ∙ room .before .before .unless2 .ensures) in
     ap told
     (ap (λ (l : List ℕ). (Accepted, l))
     (c .before .before .put .ensures
-    ∙ put-all 8 widths (fieldsOf d) out tt refl (fits d r) (λ i. start .slice-known .given i .fits) (ltb-false (length out) 8 o))
+    ∙ put-all size widths (fieldsOf d) out tt refl (fits d r) (λ i. start .slice-known .given i .fits) (ltb-false (length out) size o))
     ∙ sym (write-is d out false false r o))
 
 pub write-spec : {M : Type 1} → statement M
 write-spec =
     tie.close
     (tie.spec
-    (λ c κs. search needs)
-    (λ c κs. search needs)
-    (λ c. search needs)
-    (λ c. search needs)
-    returns
-    (λ c κs. search needs)
-    (λ c. search needs)
-    (λ c. search needs)
-    returns-2
-    (λ c κs. search needs)
-    (λ c. search needs)
-    returns-3)
+    (λ c κs. search needs) (λ c κs. search needs) (λ c. search needs) (λ c. search needs) returns
+    (λ c κs. search needs) (λ c. search needs) (λ c. search needs) returns-2
+    (λ c κs. search needs) (λ c. search needs) returns-3)

@@ -16,10 +16,4 @@ answer-all-spec =
     (tie.spec
     Inv-loop
     μ-loop
-    (λ c. tt)
-    (λ c κs. tt)
-    (λ c. tt)
-    (λ c. omega arith)
-    (λ c. omega arith)
-    (λ c. tt)
-    (λ c. tt))
+    (λ c. tt) (λ c κs. tt) (λ c. tt) (λ c. omega arith) (λ c. omega arith) (λ c. tt) (λ c. tt))

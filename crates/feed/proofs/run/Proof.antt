@@ -19,17 +19,24 @@ counts part n s h e =
     let l : n ≤ length s = omega (arith, ap bytesIn e) in
     (l, sym (length-take-le n s l))
 
+-- the points of the code: the targets read, and the profile taken before them
+abbrev targets-read : tie.After-m → tie.After-read-targets
+targets-read c = c .before .before .before
+
+abbrev profiled : tie.After-m → tie.After-n
+profiled c = targets-read c .before .before .before
+
 profile-counts : (c : tie.After-n) → Counts (c .n .given .0 .0) (c .before .before .before .read-profile .last .1 .0)
 profile-counts c = counts _ _ _ (c .before .before .before .read-profile .ensures) (c .n .given .1)
 
-targets-counts : (c : tie.After-m) → Counts (c .m .given .0 .0) (c .before .before .before .read-targets .last .1 .0)
-targets-counts c = counts _ _ _ (c .before .before .before .read-targets .ensures) (c .m .given .1)
+targets-counts : (c : tie.After-m) → Counts (c .m .given .0 .0) (targets-read c .read-targets .last .1 .0)
+targets-counts c = counts _ _ _ (targets-read c .read-targets .ensures) (c .m .given .1)
 
 array-share-prefix-p : tie.Need-array-share-prefix-p
-array-share-prefix-p c = profile-counts (c .before .before .before .before .before .before .before .before) .0
+array-share-prefix-p c = profile-counts (profiled (c .before .before)) .0
 
 slice-aggregate-answer-all : tie.Need-slice-aggregate-answer-all
-slice-aggregate-answer-all c = profile-counts (c .before .before .before .before .before .before .before .before .before) .1
+slice-aggregate-answer-all c = profile-counts (profiled (c .before .before .before)) .1
 
 array-share-prefix-t : tie.Need-array-share-prefix-t
 array-share-prefix-t c = targets-counts (c .before .before .before) .0
@@ -41,26 +48,10 @@ pub run-spec : {M : Type 1} → statement M
 run-spec =
     tie.close
     (tie.spec
-    (λ c κs. search needs)
-    (λ c. search needs)
-    (λ c κs. search needs)
-    (λ c. search needs)
-    (λ c. search needs)
-    (λ c. search needs)
-    (λ c κs. search needs)
-    (λ c. search needs)
-    (λ c. search needs)
-    (λ c κs. search needs)
-    (λ c. search needs)
-    (λ c. search needs)
-    (λ c κs. search needs)
-    (λ c. search needs)
-    (λ c. search needs)
-    (λ c κs. search needs)
-    (λ c. search needs)
-    array-share-prefix-p
+    (λ c κs. search needs) (λ c. search needs) (λ c κs. search needs) (λ c. search needs) (λ c. search needs) (λ c. search needs)
+    (λ c κs. search needs) (λ c. search needs) (λ c. search needs) (λ c κs. search needs) (λ c. search needs) (λ c. search needs)
+    (λ c κs. search needs) (λ c. search needs) (λ c. search needs) (λ c κs. search needs) (λ c. search needs) array-share-prefix-p
     slice-aggregate-answer-all
     array-share-prefix-t
     slice-aggregate-answer-all-2
-    (λ c κs. search needs)
-    (λ c. search needs))
+    (λ c κs. search needs) (λ c. search needs))

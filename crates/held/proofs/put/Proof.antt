@@ -21,7 +21,7 @@ use Rattle.consist.proofs.Sound as consist-sound
 use Rattle.session.specs.declared.Session.{Session}
 use Rattle.session.specs.Session.{isOpen}
 use Rattle.session.proofs.Admitted.{opened}
-use Rattle.held.specs.Held.{widths, backWidths, fieldsOf, backOf, bytesOf}
+use Rattle.held.specs.Held.{widths, fieldsOf, bytesOf}
 use Rattle.held.proofs.RoundTrip.{fits}
 use borrow.Author.Needs.{needs}
 use Rattle.held.proofs.put.Statement.{statement}
@@ -52,15 +52,16 @@ module _ (x : Session) (o : isOpen x ≡ true) where
 
 returns : tie.Need-returns
 returns c =
-    let written = c .before .before .before .before .before .before in
+    let sealed = c .before .before in
+    let written = sealed .before .before .before .before in
     let back = written .before .before .before .before in
     let front = back .before .before .before .before in
-    let start = front .before .before .before .before in
+    let start = front .before .before .before in
     let a = start .before .args in
     all-put (a .x) (start .before .pre .0) (now (a .out)) _ _ _ (λ i. start .slice-known .given i .fits) (start .before .pre .1)
-    (back .put-back .ensures ∙ ap (putFrom 56 backWidths (backOf (a .x .brake))) (front .put-front .ensures))
+    (back .put-back .ensures ∙ ap (putFrom 56 (drop 6 widths) (drop 6 (fieldsOf (a .x)))) (front .put-front .ensures))
     (λ i. written .write .ensures i .1)
-    (c .before .before .put-check-word .ensures)
+    (sealed .put-check-word .ensures)
 
 pub put-spec : {M : Type 1} → statement M
 put-spec =

@@ -6,8 +6,10 @@ use Rattle.held.proofs.put_front.Tie as tie
 
 returns : tie.Need-returns
 returns c =
-    let start = c .before .before .before .before .before .before .before .before .before .before in
-    rw (c .before .before .put-fields .ensures, start .state-number .ensures, same-bit (start .before .before .before .args .x .brake .sampled))
+    let put = c .before .before in
+    let lent = put .before .before .before in
+    let numbered = lent .before .before .before .before .before in
+    rw (put .put-fields .ensures, numbered .state-number .ensures, same-bit (numbered .before .before .before .args .x .brake .sampled))
 
 pub put-front-spec : {M : Type 1} → statement M
 put-front-spec =

@@ -17,7 +17,13 @@ use borrow.Author.Needs.{needs}
 use Rattle.held.proofs.read.Statement.{statement}
 use Rattle.held.proofs.read.Tie as tie
 
--- past the first step
+-- the points of the code: past the first step, and the consist read
+abbrev first : tie.After-read → tie.After-enum-told
+first c = c .before .before
+
+abbrev consisted : tie.After-of-bytes → tie.After-read
+consisted c = c .before .before .before .before
+
 abbrev bytes : tie.After-enum-told → List ℕ
 bytes c = now (c .before .before .before .before .before .args .s)
 
@@ -25,15 +31,15 @@ past-record : (c : tie.After-enum-told) → noRecord (bytes c) ≡ false
 past-record c = sym (c .before .before .before .no-record .ensures) ∙ on-unless _ (sym (c .enum-told .given .1) ∙ c .before .before .unless .ensures)
 
 -- the consist, as its reader answers
-found : (c : tie.After-read) → (c .read .result .verdict, c .read .result .consist) ≡ readConsist (consistAt (bytes (c .before .before)))
+found : (c : tie.After-read) → (c .read .result .verdict, c .read .result .consist) ≡ readConsist (consistAt (bytes (first c)))
 found c = told-one _ _ (c .read .ensures)
 
 -- what is made of the fields and the consist is what the bytes stand for
-made : (c : tie.After-of-bytes) → c .of-bytes .result ≡ sessionIn (bytes (c .before .before .before .before .before .before))
+made : (c : tie.After-of-bytes) → c .of-bytes .result ≡ sessionIn (bytes (first (consisted c)))
 unfolding sessionIn
 made c =
-    let s = bytes (c .before .before .before .before .before .before) in
-    let f = found (c .before .before .before .before) in
+    let s = bytes (first (consisted c)) in
+    let f = found (consisted c) in
     let a = consist-accepted s ((λ i. sym f i .0) ∙ c .before .before .enum-told3 .given .1) in
     c .of-bytes .ensures ∙ ap (ofFields (fieldsAt s)) ((λ i. f i .1) ∙ a)
 
@@ -46,8 +52,9 @@ returns c =
 returns-2 : tie.Need-returns-2
 unfolding noSession
 returns-2 c =
-    let past = c .before .before .before .before .before in
-    let refused = (λ i. sym (found (c .before .before .before)) i .0) ∙ c .before .enum-told4 .given .1 in
+    let read = c .before .before .before in
+    let past = first read in
+    let refused = (λ i. sym (found read) i .0) ∙ c .before .enum-told4 .given .1 in
     c .refused2 .ensures ∙ sym (ap readTold (read-is _ true (simp (consist-refused (bytes past) (is-record (bytes past) (past-record past) .size) _ refused, or-true))))
 
 returns-3 : tie.Need-returns-3
@@ -63,7 +70,7 @@ returns-4 c =
     let judged = c .before .before .before in
     let m = made (judged .before) in
     let open-session = ap isOpen (sym m) ∙ sym (judged .is-open .ensures) ∙ not-false _ (on-unless _ (sym (c .enum-told5 .given .1) ∙ c .before .before .unless2 .ensures)) in
-    let past = past-record (judged .before .before .before .before .before .before .before) in
+    let past = past-record (first (consisted (judged .before))) in
     ap readTold (ap (answer Accepted) m ∙ sym (read-is _ false (rw (past, open-session))))
 
 pub read-spec : {M : Type 1} → statement M

@@ -15,12 +15,17 @@ use borrow.Author.Needs.{needs}
 use Rattle.held.proofs.write.Statement.{statement}
 use Rattle.held.proofs.write.Tie as tie
 
--- past the first rule
-past-open : (c : tie.After-enum-told) → isOpen (c .before .before .before .before .before .args .x) ≡ true
+-- the points of the code: its start, and past the first rule
+abbrev start : tie.After-enum-told → tie.Start
+start c = c .before .before .before .before .before
+
+abbrev first : tie.After-enum-told3 → tie.After-enum-told
+first c = c .before .before .before
+
+past-open : (c : tie.After-enum-told) → isOpen (start c .args .x) ≡ true
 past-open c = sym (c .before .before .before .is-open .ensures) ∙ not-false _ (on-unless _ (sym (c .enum-told .given .1) ∙ c .before .before .unless .ensures))
 
--- past the second
-past-room : (c : tie.After-enum-told3) → 40 ≤ length (now (c .before .before .before .before .before .before .before .before .args .out))
+past-room : (c : tie.After-enum-told3) → 40 ≤ length (now (start (first c) .args .out))
 past-room c = ltb-false _ 40 (on-unless _ (sym (c .enum-told3 .given .1) ∙ c .before .before .unless2 .ensures))
 
 returns : tie.Need-returns
@@ -37,7 +42,7 @@ returns-2 c =
 returns-3 : tie.Need-returns-3
 returns-3 c =
     let room = c .before .before .before .before in
-    ap told ((λ i. (Accepted, c .before .before .put .ensures i)) ∙ sym (write-accepted _ _ (past-open (room .before .before .before)) (past-room room)))
+    ap told ((λ i. (Accepted, c .before .before .put .ensures i)) ∙ sym (write-accepted _ _ (past-open (first room)) (past-room room)))
 
 pub write-spec : {M : Type 1} → statement M
 write-spec =
@@ -45,4 +50,4 @@ write-spec =
     (tie.spec
     (λ c κs. search needs) (λ c κs. search needs) (λ c. search needs) (λ c. search needs) returns
     (λ c κs. search needs) (λ c. search needs) (λ c. search needs) returns-2
-    (λ c κs. (past-open (c .before .before .before .before), past-room (c .before))) (λ c. search needs) returns-3)
+    (λ c κs. (past-open (first (c .before)), past-room (c .before))) (λ c. search needs) returns-3)

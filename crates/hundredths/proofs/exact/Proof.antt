@@ -10,11 +10,11 @@ use Rattle.hundredths.proofs.exact.Statement.{statement}
 use Rattle.hundredths.proofs.exact.Tie as tie
 
 -- an f32 is a value that its format holds
-held : (c : tie.Start) → T (fits binary32 (c .args .x))
-held c = subst T (sym (c .good .0 .1)) tt
+in-format : (c : tie.Start) → T (fits binary32 (c .args .x))
+in-format c = subst T (sym (c .good .0 .1)) tt
 
 pattern : (c : tie.After-bits-of) → ofBits binary32 (c .bits-of .result) ≡ c .before .args .x
-pattern c = ap (ofBits binary32) (c .bits-of .ensures) ∙ ofBits-toBits binary32 (c .before .args .x) (held (c .before))
+pattern c = ap (ofBits binary32) (c .bits-of .ensures) ∙ ofBits-toBits binary32 (c .before .args .x) (in-format (c .before))
 
 bits-of-requires : tie.Need-bits-of-requires
 bits-of-requires c κs = search needs

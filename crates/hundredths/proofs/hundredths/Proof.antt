@@ -5,8 +5,8 @@ use native.Mathlib.Nat.{mul-assoc}
 use native.Mathlib.Omega.{arith}
 use lib.Pow.{pow-pos}
 use borrow.Author.Needs.{needs}
-use Rattle.hundredths.specs.Reading.{num, den, hundredthsOf, mostPressure}
-use Rattle.hundredths.proofs.Accepted.{den-pos, hundredths-most}
+use Rattle.hundredths.specs.Reading.{numerator, denominator, hundredthsOf, mostPsi}
+use Rattle.hundredths.proofs.Accepted.{denominator-pos, hundredths-most}
 use Rattle.hundredths.proofs.Rounded.{rounded-same}
 use Rattle.hundredths.proofs.hundredths.Statement.{statement}
 use Rattle.hundredths.proofs.hundredths.Tie as tie
@@ -26,13 +26,13 @@ returns c =
     let a = c .before .before .before .args in
     let v = c .before .before .exact .result in
     c .quotient .ensures
-    ∙ rounded-same (a .rounding) (100 * v .digits) (2 ^ v .places) (100 * num (a .x)) (den (a .x)) (pow-pos (v .places)) (den-pos (a .x))
-    (mul-assoc 100 (v .digits) (den (a .x)) ∙ ap (λ (z : ℕ). 100 * z) (sym (c .before .before .exact .ensures .value)) ∙ sym (mul-assoc 100 (num (a .x)) (2 ^ v .places)))
+    ∙ rounded-same (a .rounding) (100 * v .digits) (2 ^ v .places) (100 * numerator (a .x)) (denominator (a .x)) (pow-pos (v .places)) (denominator-pos (a .x))
+    (mul-assoc 100 (v .digits) (denominator (a .x)) ∙ ap (λ (z : ℕ). 100 * z) (sym (c .before .before .exact .ensures .value)) ∙ sym (mul-assoc 100 (numerator (a .x)) (2 ^ v .places)))
 
 cast-result : tie.Need-cast-result
 cast-result c =
     let s = c .before .before .before in
-    omega (arith, returns c, hundredths-most (s .args .rounding) mostPressure (s .args .x) (s .pre))
+    omega (arith, returns c, hundredths-most (s .args .rounding) mostPsi (s .args .x) (s .pre))
 
 pub hundredths-spec : {M : Type 1} → statement M
 hundredths-spec = tie.close (tie.spec exact-requires mul-quotient quotient-requires cast-result returns)

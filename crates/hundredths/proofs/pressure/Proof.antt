@@ -2,14 +2,14 @@
 use mathlib.Core.Path.{_≡_, refl}
 use mathlib.Core.Bool.{false}
 use lib.Ieee.{ofBits}
-use Rattle.hundredths.specs.Reading.{isBad, mostPressure, pressureOf}
+use Rattle.hundredths.specs.Reading.{isBad, mostPsi, pressureOf}
 use Rattle.hundredths.proofs.Judge.{taken, left}
 use Rattle.hundredths.proofs.pressure.Statement.{statement}
 use Rattle.hundredths.proofs.pressure.Tie as tie
 
-accepted : (c : tie.Then1) → isBad mostPressure (c .before .args .x) ≡ false
+accepted : (c : tie.Then1) → isBad mostPsi (c .before .args .x) ≡ false
 unfolding ofBits
-accepted c = taken mostPressure 5 5 refl (c .before .args .x) (c .if1 .taken)
+accepted c = taken mostPsi 5 5 refl (c .before .args .x) (c .if1 .taken)
 
 hundredths-requires : tie.Need-hundredths-requires
 hundredths-requires c κs = accepted c
@@ -20,7 +20,7 @@ returns c = simp (accepted (c .before), c .hundredths .ensures)
 
 returns-2 : tie.Need-returns-2
 unfolding ofBits pressureOf
-returns-2 c = simp (left mostPressure 5 5 refl (c .before .args .x) (c .if1 .left))
+returns-2 c = simp (left mostPsi 5 5 refl (c .before .args .x) (c .if1 .left))
 
 pub pressure-spec : {M : Type 1} → statement M
 pressure-spec = tie.close (tie.spec hundredths-requires returns returns-2)

@@ -5,15 +5,16 @@ use native.Mathlib.Nat.{div-eq-of-lt, add-div-right, div-le-self}
 use native.Mathlib.Omega.{arith}
 use lib.Pow.{pow-pos}
 use borrow.Author.Needs.{needs}
-use Rattle.hundredths.specs.declared.Rounding.the-variants.{Up}
-use Rattle.hundredths.specs.Reading.{rounded}
+use Rattle.whole.specs.Ceiling.{ceilDiv}
 use Rattle.hundredths.proofs.quotient.Statement.{statement}
 use Rattle.hundredths.proofs.quotient.Tie as tie
 
-up-none : (n b : ℕ) → 0 < b → n ≡ 0 → rounded Up n b ≡ 0
+up-none : (n b : ℕ) → 0 < b → n ≡ 0 → ceilDiv n b ≡ 0
+unfolding ceilDiv
 up-none n b h e = div-eq-of-lt (omega arith)
 
-up-some : (n b : ℕ) → 0 < b → (n ≡ 0 → ⊥) → rounded Up n b ≡ (n - 1) / b + 1
+up-some : (n b : ℕ) → 0 < b → (n ≡ 0 → ⊥) → ceilDiv n b ≡ (n - 1) / b + 1
+unfolding ceilDiv
 up-some n b h some =
     let same : n + (b - 1) ≡ (n - 1) + b = omega arith in
     ap (λ (z : ℕ). z / b) same ∙ add-div-right (n - 1) h

@@ -3,7 +3,7 @@ use mathlib.Core.Path.{_≡_, refl}
 use mathlib.Core.Bool.{false}
 use lib.Dec.{lit≤}
 use lib.Ieee.{ofBits}
-use Rattle.hundredths.specs.Reading.{isBad, mostSpeed, mostPressure, speedOf}
+use Rattle.hundredths.specs.Reading.{isBad, mostSpeed, mostPsi, speedOf}
 use Rattle.hundredths.proofs.Accepted.{wider}
 use Rattle.hundredths.proofs.Judge.{taken, left}
 use Rattle.hundredths.proofs.speed.Statement.{statement}
@@ -14,7 +14,7 @@ unfolding ofBits
 accepted c = taken mostSpeed 25 2 refl (c .before .args .x) (c .if1 .taken)
 
 hundredths-requires : tie.Need-hundredths-requires
-hundredths-requires c κs = wider mostSpeed mostPressure (c .before .args .x) (lit≤ tt) (accepted c)
+hundredths-requires c κs = wider mostSpeed mostPsi (c .before .args .x) (lit≤ tt) (accepted c)
 
 returns : tie.Need-returns
 unfolding speedOf

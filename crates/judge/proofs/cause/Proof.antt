@@ -29,11 +29,11 @@ unfolding firstFrom
 none-left f k n h = let z : n - k ≡ 0 = omega arith in rw z
 
 abbrev Inv-loop : tie.InvT-loop
-Inv-loop offset head speed count locations speeds places n k₀ k =
-    (n ≤ most) × (k ≤ n) × (causeOf offset head speed count locations speeds places ≡ firstFrom (calls offset head speed locations speeds places) k (n - k))
+Inv-loop offset head speed count locations speeds arrivals n k₀ k =
+    (n ≤ most) × (k ≤ n) × (causeOf offset head speed count locations speeds arrivals ≡ firstFrom (calls offset head speed locations speeds arrivals) k (n - k))
 
 abbrev μ-loop : tie.MeasureT-loop
-μ-loop offset head speed count locations speeds places n k₀ k = n - k
+μ-loop offset head speed count locations speeds arrivals n k₀ k = n - k
 
 loop-holds : tie.Need-loop-holds Inv-loop μ-loop
 unfolding causeOf
@@ -45,43 +45,10 @@ loop-holds c =
       ap (λ (m : ℕ). firstFrom (calls (a .offset) (a .head) (a .speed) (a .t5) (a .t6) (a .t7)) 0 m) (omega arith),
     )
 
-mul-is-called : tie.Need-mul-is-called Inv-loop μ-loop
-mul-is-called c = omega arith
-
-array-read-is-called : tie.Need-array-read-is-called Inv-loop μ-loop
-array-read-is-called c = omega arith
-
-mul-is-called-2 : tie.Need-mul-is-called-2 Inv-loop μ-loop
-mul-is-called-2 c = omega arith
-
-array-read-is-called-2 : tie.Need-array-read-is-called-2 Inv-loop μ-loop
-array-read-is-called-2 c = omega arith
-
-mul-is-called-3 : tie.Need-mul-is-called-3 Inv-loop μ-loop
-mul-is-called-3 c = omega arith
-
-array-read-is-called-3 : tie.Need-array-read-is-called-3 Inv-loop μ-loop
-array-read-is-called-3 c = omega arith
-
-is-called-requires : tie.Need-is-called-requires Inv-loop μ-loop
-is-called-requires c κs = search needs
-
-cast-result : tie.Need-cast-result Inv-loop μ-loop
-cast-result c = omega arith
-
-add-result : tie.Need-add-result Inv-loop μ-loop
-add-result c = omega arith
-
 returns : tie.Need-returns Inv-loop μ-loop
 returns c =
     let l = c .before .before .before .loop in
     sym (l .inv .2 ∙ found _ (l .k) _ (omega arith) (c .before .is-called .ensures) (c .if2 .taken))
-
-add-k : tie.Need-add-k Inv-loop μ-loop
-add-k c = omega arith
-
-loop-less : tie.Need-loop-less Inv-loop μ-loop
-loop-less c = omega arith
 
 loop-again : tie.Need-loop-again Inv-loop μ-loop
 loop-again c =
@@ -97,21 +64,5 @@ returns-2 c = let l = c .before .loop in sym (l .inv .2 ∙ none-left _ (l .k) _
 pub cause-spec : {M : Type 1} → statement M
 cause-spec =
     tie.close
-    (tie.spec
-    Inv-loop
-    μ-loop
-    loop-holds
-    mul-is-called
-    array-read-is-called
-    mul-is-called-2
-    array-read-is-called-2
-    mul-is-called-3
-    array-read-is-called-3
-    is-called-requires
-    cast-result
-    add-result
-    returns
-    add-k
-    loop-less
-    loop-again
-    returns-2)
+    (tie.spec Inv-loop μ-loop loop-holds (λ c. omega arith) (λ c. omega arith) (λ c. omega arith) (λ c. omega arith) (λ c. omega arith)
+    (λ c. omega arith) (λ c κs. search needs) (λ c. omega arith) (λ c. omega arith) returns (λ c. omega arith) (λ c. omega arith) loop-again returns-2)

@@ -33,14 +33,10 @@ mul-ceil-div c =
     let d : a .v * a .v - a .u * a .u ≤ (2 ^ 16 - 1) * (2 ^ 16 - 1) = omega (arith, square _ (c .before .fits .v)) in
     omega (arith, mul-le-mul o d)
 
-ceil-div-requires : tie.Need-ceil-div-requires
-ceil-div-requires c κs = search needs
-
 returns-2 : tie.Need-returns-2
 unfolding offsetFor
 returns-2 c = c .ceil-div .ensures
 
 pub offset-for-spec : {M : Type 1} → statement M
 offset-for-spec =
-    tie.close
-    (tie.spec returns mul-vv mul-uu sub-ceil-div mul-ceil-div ceil-div-requires returns-2)
+    tie.close (tie.spec returns mul-vv mul-uu sub-ceil-div mul-ceil-div (λ c κs. search needs) returns-2)

@@ -42,23 +42,17 @@ returns c =
 returns-2 : tie.Need-returns-2
 unfolding openBytes
 returns-2 c =
-    let k = c .before .before .before .before .before .before .before .before in
+    let put = c .before .before .before in
+    let judged = put .before .before .before in
+    let k = judged .before .before in
     told-of (c .verdict-number2 .ensures)
-    (c .before .before .before .write .ensures
+    (put .write .ensures
     ∙ ap (λ (a : Answer). told (writeSession (a .session) (session k))) (answers k)
-    ∙ ap told (open-written (consist k) (session k) (verdict-is k ∙ c .before .before .before .before .before .before .enum-told .given .1)))
+    ∙ ap told (open-written (consist k) (session k) (verdict-is k ∙ judged .enum-told .given .1)))
 
 pub buongilach-open-spec : {M : Type 1} → statement M
 buongilach-open-spec =
     tie.close
     (tie.spec
-    (λ c κs. search needs)
-    (λ c κs. search needs)
-    (λ c. search needs)
-    (λ c. search needs)
-    (λ c κs. search needs)
-    returns
-    (λ c κs. search needs)
-    (λ c κs. search needs)
-    (λ c. search needs)
-    returns-2)
+    (λ c κs. search needs) (λ c κs. search needs) (λ c. search needs) (λ c. search needs) (λ c κs. search needs) returns
+    (λ c κs. search needs) (λ c κs. search needs) (λ c. search needs) returns-2)

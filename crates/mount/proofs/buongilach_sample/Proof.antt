@@ -16,8 +16,11 @@ use Rattle.mount.proofs.buongilach_sample.Tie as tie
 
 -- past the front's reading
 module _ (c : tie.After-read-front) where
+  abbrev lent : tie.After-shared-slice-known2
+  lent = c .before .before .before .before
+
   abbrev start : tie.Start
-  start = c .before .before .before .before .before .before .before
+  start = lent .before .before .before
 
   abbrev session : List ℕ
   session = now (start .args .session)
@@ -69,33 +72,20 @@ returns-2 c =
 
 returns-3 : tie.Need-returns-3
 returns-3 c =
-    let call = c .before .before .before .before .before .before .before .before .before .before in
+    let put = c .before .before .before in
+    let judged = put .before .before .before in
+    let call = judged .before .before .before .before in
     let k = front-read call in
     sample-accepted (session k) (sample k) (profile k) (targets k) (decision k) (k .read-front .result .session) (held-as call)
     (call .sample .result) (left call) (call .sample .ensures)
     (c .verdict-number3 .ensures)
-    (c .before .before .before .write .ensures)
-    (c .before .before .before .before .before .before .enum-told3 .given .1)
+    (put .write .ensures)
+    (judged .enum-told3 .given .1)
 
 pub buongilach-sample-spec : {M : Type 1} → statement M
 buongilach-sample-spec =
     tie.close
     (tie.spec
-    (λ c κs. search needs)
-    (λ c. search needs)
-    (λ c. search needs)
-    (λ c κs. search needs)
-    (λ c. search needs)
-    returns
-    (λ c κs. search needs)
-    (λ c. search needs)
-    (λ c. search needs)
-    (λ c κs. search needs)
-    (λ c. search needs)
-    (λ c. search needs)
-    returns-2
-    (λ c κs. search needs)
-    (λ c κs. search needs)
-    (λ c. search needs)
-    (λ c. search needs)
-    returns-3)
+    (λ c κs. search needs) (λ c. search needs) (λ c. search needs) (λ c κs. search needs) (λ c. search needs) returns
+    (λ c κs. search needs) (λ c. search needs) (λ c. search needs) (λ c κs. search needs) (λ c. search needs) (λ c. search needs) returns-2
+    (λ c κs. search needs) (λ c κs. search needs) (λ c. search needs) (λ c. search needs) returns-3)

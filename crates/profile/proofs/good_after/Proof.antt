@@ -11,7 +11,8 @@ use Rattle.profile.proofs.good_after.Tie as tie
 returns : tie.Need-returns
 unfolding inRange
 returns c =
-    let g = c .before .before .before .before .before .before .before .args .g in
+    let told = c .before .before .before in
+    let g = told .before .before .before .before .args .g in
     let z : toZ w16 (ofZ w16 (g .grade)) ≡ g .grade = search needs in
     rw (z, both-ends (g .grade))
 

@@ -1,7 +1,8 @@
 -- `profile::judge` meets its contract: the records before k are judged, and `before` is the start of the last of them. Assumes nothing.
 use mathlib.Core.Path.{_≡_, sym, ap, _∙_}
 use mathlib.Core.Bool.{true, false, not, _&&_}
-use Prim.Native.Nat.{_-_, _%_, _≤_}
+use mathlib.Core.List.{List}
+use Prim.Native.Nat.{ℕ, _-_, _%_, _≤_}
 use native.Mathlib.Omega.{arith}
 use lib.Dec.{leb, eqb}
 use lib.ListN.{length}
@@ -9,8 +10,8 @@ use borrow.Author.Tests.{not-true, not-false}
 use Rattle.bits.proofs.Ranges.{and-true-right}
 use Rattle.refusal.specs.Number.{told}
 use Rattle.refusal.proofs.Steps.{on-unless, off-unless}
-use Rattle.table.specs.Table.{keptIn}
-use Rattle.table.proofs.Judging.{counted-range, closed-last, Judged, judged-none, judged-next, kept-wrong, kept-judged, judge-is}
+use Rattle.table.specs.Table.{lawfulIn}
+use Rattle.table.proofs.Judging.{counted-range, closed-last, Judged, judged-none, judged-next, lawful-wrong, lawful-judged, judge-is}
 use Rattle.profile.specs.Profile.{size, fewest, most, ends, segments, count, segmentAt, spareZeroAt}
 use Rattle.profile.proofs.Sound.{counted-is}
 use Rattle.profile.proofs.judge.Statement.{statement}
@@ -23,21 +24,23 @@ abbrev μ-loop : tie.MeasureT-loop
 μ-loop p n whole last good₀ before₀ k₀ good before k = n - k
 
 returns : tie.Need-returns Inv-loop μ-loop
-unfolding keptIn
+unfolding lawfulIn
 returns c =
     let p = c .before .before .before .before .before .args .p .now in
     let no = off-unless _ (sym (c .before .enum-told2 .given .1) ∙ c .before .before .before .unless .ensures) in
     let a = eqb (length p % size) 0 in
-    ap told (c .refused .ensures ∙ sym (judge-is segments p false (kept-wrong segments (count p) _ _ a (counted-is a (count p)) no)))
+    ap told (c .refused .ensures ∙ sym (judge-is segments p false (lawful-wrong segments (count p) _ _ a (counted-is a (count p)) no)))
 
 -- past the number of records
-whole-is : (c : tie.After-enum-told Inv-loop μ-loop)
-    → let p = c .before .before .before .before .args .p .now in not (eqb (length p % size) 0 && leb fewest (count p) && leb (count p) most) ≡ false
+abbrev given : tie.After-enum-told Inv-loop μ-loop → List ℕ
+given c = c .before .before .before .before .args .p .now
+
+whole-is : (c : tie.After-enum-told Inv-loop μ-loop) → let p = given c in not (eqb (length p % size) 0 && leb fewest (count p) && leb (count p) most) ≡ false
 whole-is c = on-unless _ (sym (c .enum-told .given .1) ∙ c .before .before .unless .ensures)
 
-some : (c : tie.After-enum-told Inv-loop μ-loop) → fewest ≤ count (c .before .before .before .before .args .p .now)
+some : (c : tie.After-enum-told Inv-loop μ-loop) → fewest ≤ count (given c)
 some c =
-    let p = c .before .before .before .before .args .p .now in
+    let p = given c in
     let a = eqb (length p % size) 0 in
     counted-range segments (count p) (and-true-right a _ (sym (counted-is a (count p)) ∙ not-false _ (whole-is c))) .0
 
@@ -48,26 +51,27 @@ loop-again c =
     (c .good-after .ensures)
 
 -- past the records
-is-kept : (c : tie.After-only-ends Inv-loop μ-loop)
-    → keptIn segments (c .before .before .before .before .before .before .before .before .args .p .now) ≡ c .before .before .before .loop .good && c .only-ends .result
-unfolding keptIn
-is-kept c =
-    let number = c .before .before .before .before in
-    let p = number .before .before .before .before .args .p .now in
+abbrev number : tie.After-only-ends Inv-loop μ-loop → tie.After-enum-told Inv-loop μ-loop
+number c = c .before .before .before .before
+
+is-lawful : (c : tie.After-only-ends Inv-loop μ-loop) → lawfulIn segments (given (number c)) ≡ c .before .before .before .loop .good && c .only-ends .result
+unfolding lawfulIn
+is-lawful c =
+    let p = given (number c) in
     let l = c .before .before .before .loop in
     let a = eqb (length p % size) 0 in
-    kept-judged segments (count p) _ _ a (counted-is a (count p)) (whole-is number) (l .k) (l .good) (l .before) _ (l .inv) (omega (arith, c .before .before .loop-test .left))
-    (c .only-ends .ensures ∙ ap ends (c .before .segment-at2 .ensures) ∙ closed-last segments (count p) (segmentAt p) (omega (arith, some number)))
+    lawful-judged segments (count p) _ _ a (counted-is a (count p)) (whole-is (number c)) (l .k) (l .good) (l .before) _ (l .inv) (omega (arith, c .before .before .loop-test .left))
+    (c .only-ends .ensures ∙ ap ends (c .before .segment-at2 .ensures) ∙ closed-last segments (count p) (segmentAt p) (omega (arith, some (number c))))
 
 returns-2 : tie.Need-returns-2 Inv-loop μ-loop
 returns-2 c =
     let no = off-unless _ (sym (c .before .enum-told4 .given .1) ∙ c .before .before .before .unless2 .ensures) in
-    ap told (c .refused2 .ensures ∙ sym (judge-is segments _ false (is-kept (c .before .before .before .before) ∙ not-true _ no)))
+    ap told (c .refused2 .ensures ∙ sym (judge-is segments _ false (is-lawful (c .before .before .before .before) ∙ not-true _ no)))
 
 returns-3 : tie.Need-returns-3 Inv-loop μ-loop
 returns-3 c =
     let yes = on-unless _ (sym (c .enum-told3 .given .1) ∙ c .before .before .unless2 .ensures) in
-    ap told (sym (judge-is segments _ true (is-kept (c .before .before .before) ∙ not-false _ yes)))
+    ap told (sym (judge-is segments _ true (is-lawful (c .before .before .before) ∙ not-false _ yes)))
 
 pub judge-spec : {M : Type 1} → statement M
 judge-spec =

@@ -10,16 +10,17 @@ use Rattle.profile.proofs.put.Statement.{statement}
 use Rattle.profile.proofs.put.Tie as tie
 
 -- the grade as the machine holds it
-held : (c : tie.After-struct-told) → toZ w16 (ofZ w16 (c .before .before .before .args .g .grade)) ≡ c .before .before .before .args .g .grade
-held c = search needs
+grade-is : (c : tie.After-struct-told) → toZ w16 (ofZ w16 (c .before .before .before .args .g .grade)) ≡ c .before .before .before .args .g .grade
+grade-is c = search needs
 
 grade-bits-requires : tie.Need-grade-bits-requires
-grade-bits-requires c κs = rw (held c) (in-eleven (c .before .before .before .args .g .grade) (ranged (c .before .before .before .args .g) (c .before .before .before .pre) .grade))
+grade-bits-requires c κs = rw (grade-is c) (in-eleven (c .before .before .before .args .g .grade) (ranged (c .before .before .before .args .g) (c .before .before .before .pre) .grade))
 
 returns : tie.Need-returns
 returns c =
-    let told = c .before .before .before .before .before .before .before .before in
-    rw (c .before .before .put-fields .ensures, c .before .before .before .before .before .before .before .grade-bits .ensures, held told)
+    let fields = c .before .before in
+    let bits = fields .before .before .before .before .before in
+    rw (fields .put-fields .ensures, bits .grade-bits .ensures, grade-is (bits .before))
 
 pub put-spec : {M : Type 1} → statement M
 put-spec =

@@ -6,7 +6,7 @@ use native.Mathlib.Omega.{arith}
 use lib.ListN.{length}
 use borrow.Author.Tests.{not-false}
 use Rattle.bits.proofs.Ranges.{and-true-left, and-true-right}
-use Rattle.table.proofs.Judging.{counted-range, closed-last, Judged, judged-none, judged-next, kept-wrong, kept-judged}
+use Rattle.table.proofs.Judging.{counted-range, closed-last, Judged, judged-none, judged-next, lawful-wrong, lawful-judged}
 use Rattle.profile.specs.Profile.{fewest, ends, segments, counted, segmentOf, same}
 use Rattle.profile.proofs.Sound.{counted-is, lengths}
 use Rattle.profile.proofs.rows_keep.Statement.{statement}
@@ -22,7 +22,7 @@ returns : tie.Need-returns Inv-loop μ-loop
 returns c =
     let a = c .before .before .before .args in
     let b = same (a .starts .now) (a .grades .now) (a .curvatures .now) in
-    sym (kept-wrong segments _ (segmentOf (a .starts .now) (a .grades .now) (a .curvatures .now)) (λ i. true) b (counted-is b (length (a .starts .now))) (c .if1 .taken))
+    sym (lawful-wrong segments _ (segmentOf (a .starts .now) (a .grades .now) (a .curvatures .now)) (λ i. true) b (counted-is b (length (a .starts .now))) (c .if1 .taken))
 
 -- past the number of records
 known : (c : tie.Else1 Inv-loop μ-loop)
@@ -50,7 +50,7 @@ returns-2 c =
     let b = same (a .starts .now) (a .grades .now) (a .curvatures .now) in
     let l = c .before .before .before .loop in
     sym
-    (kept-judged segments n f (λ i. true) b (counted-is b n) (number .if1 .left) (l .k) (l .good) (l .before) _ (l .inv) (c .before .before .loop-test .left)
+    (lawful-judged segments n f (λ i. true) b (counted-is b n) (number .if1 .left) (l .k) (l .good) (l .before) _ (l .inv) (c .before .before .loop-test .left)
     (c .only-ends .ensures ∙ ap ends {y = f (n - 1)} (c .before .row-at2 .ensures) ∙ closed-last segments n f (omega (arith, known number))))
 
 pub rows-keep-spec : {M : Type 1} → statement M

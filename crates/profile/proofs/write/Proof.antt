@@ -10,7 +10,7 @@ use Rattle.refusal.specs.Number.{told}
 use Rattle.refusal.specs.Written.{noRoom}
 use Rattle.refusal.proofs.Steps.{on-unless, off-unless}
 use Rattle.table.proofs.Writing.{Put, put-none, put-ranged, put-next, write-is, put-all-of}
-use Rattle.profile.specs.Profile.{inRange, segments, segmentOf, same, keptOf}
+use Rattle.profile.specs.Profile.{inRange, segments, segmentOf, same, lawfulOf}
 use Rattle.profile.proofs.Sound.{facts, lengths}
 use Rattle.profile.proofs.write.Statement.{statement}
 use Rattle.profile.proofs.write.Tie as tie
@@ -26,8 +26,14 @@ returns c =
     let no = off-unless _ (sym (c .enum-told2 .given .1) ∙ c .before .before .unless .ensures) in
     ap told (sym (write-is segments _ facts _ _ _ false _ (sym (c .before .before .before .rows-keep .ensures) ∙ not-true _ no) refl))
 
--- past the rules
-past-rules : (c : tie.After-enum-told Inv-loop μ-loop) → let a = c .before .before .before .before .before .before .before .args in keptOf (a .starts .now) (a .grades .now) (a .curvatures .now) ≡ true
+-- at the start, and past the rules
+abbrev begun : tie.After-enum-told Inv-loop μ-loop → tie.After-slice-known Inv-loop μ-loop
+begun c = c .before .before .before .before
+
+abbrev ruled : tie.After-enum-told3 Inv-loop μ-loop → tie.After-enum-told Inv-loop μ-loop
+ruled c = c .before .before .before
+
+past-rules : (c : tie.After-enum-told Inv-loop μ-loop) → let a = begun c .before .before .before .args in lawfulOf (a .starts .now) (a .grades .now) (a .curvatures .now) ≡ true
 past-rules c = sym (c .before .before .before .rows-keep .ensures) ∙ not-false _ (on-unless _ (sym (c .enum-told .given .1) ∙ c .before .before .unless .ensures))
 
 returns-2 : tie.Need-returns-2 Inv-loop μ-loop
@@ -43,14 +49,14 @@ loop-holds c =
 
 row-at-requires : tie.Need-row-at-requires Inv-loop μ-loop
 row-at-requires c κs =
-    let a = c .before .before .before .before .before .before .before .before .before .before .before .before .args in
+    let a = begun (ruled (c .before .before)) .before .before .before .args in
     omega (arith, lengths (a .starts .now) (a .grades .now) (a .curvatures .now) (and-true-left _ _ (c .before .loop .inv .right)))
 
 loop-again : tie.Need-loop-again Inv-loop μ-loop
 loop-again c =
-    let at = c .before .before .before .before .before .before in
-    let slice = at .before .before .before .before .before .before .before .before in
-    put-next segments _ facts (at .loop .inv) (c .before .before .before .before .before .loop-test .taken) (λ i. slice .slice-known .given i .fits) _ (c .before .before .before .before .row-at .ensures) _
+    let row = c .before .before .before .before in
+    let at = row .before .before in
+    put-next segments _ facts (at .loop .inv) (row .before .loop-test .taken) (λ i. begun (ruled (at .before)) .slice-known .given i .fits) _ (row .row-at .ensures) _
     (c .before .before .put .ensures)
 
 returns-3 : tie.Need-returns-3 Inv-loop μ-loop

@@ -1,16 +1,16 @@
 -- `sample::of_bytes` meets its contract: each field is read at its place. Assumes nothing.
-
 use borrow.Author.Needs.{needs}
 use Rattle.sample.proofs.of_bytes.Statement.{statement}
 use Rattle.sample.proofs.of_bytes.Tie as tie
 
 returns : tie.Need-returns
 returns c =
+    let front = c .before .before .before .before .before in
     rw (
-      c .before .before .before .before .before .before .before .float-of .ensures,
-      c .before .before .before .before .before .before .before .before .field .ensures .0,
-      c .before .before .before .before .before .float-of2 .ensures,
-      c .before .before .before .before .before .before .field2 .ensures .0,
+      front .before .before .float-of .ensures,
+      front .before .before .before .field .ensures .0,
+      front .float-of2 .ensures,
+      front .before .field2 .ensures .0,
       c .before .before .rear-of .ensures,
       c .before .before .before .before .field3 .ensures .0,
       c .before .before .before .field4 .ensures .0,

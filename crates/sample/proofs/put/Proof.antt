@@ -6,8 +6,10 @@ use Rattle.sample.proofs.put.Tie as tie
 
 returns : tie.Need-returns
 returns c =
-    let made = c .before .before .before .before .before .before .before .before in (
-      rw (c .before .before .put-readings .ensures, c .before .before .before .before .before .before .put-lead .ensures, made .before .before .before .present-bit .ensures, made .before .before .bits-of .ensures, made .before .bits-of2 .ensures, made .rear-bits .ensures),
+    let readings = c .before .before in
+    let lead = readings .before .before .before .before in
+    let made = lead .before .before in (
+      rw (readings .put-readings .ensures, lead .put-lead .ensures, made .before .before .before .present-bit .ensures, made .before .before .bits-of .ensures, made .before .bits-of2 .ensures, made .rear-bits .ensures),
       omega (arith, made .before .before .bits-of, made .before .bits-of2, made .rear-bits),
     )
 

@@ -27,10 +27,11 @@ returns-2 c =
 
 returns-3 : tie.Need-returns-3
 returns-3 c =
+    let laid = c .before .before .before .before in
     let j = judged-is _ (c .before .before .judge .result) _ (c .before .before .judge .ensures) (c .enum-told3 .given .1) in
     ap answerTold
-    (ap (λ (v : Verdict). (v, c .before .before .before .before .before .before .lay-out .result .raw)) (c .before .before .before .before .enum-told .given .1)
-    ∙ sym (read-is _ _ false (past-layout (c .before .before .before .before)) (judged-accepted _ _ j .0)))
+    (ap (λ (v : Verdict). (v, laid .before .before .lay-out .result .raw)) (laid .enum-told .given .1)
+    ∙ sym (read-is _ _ false (past-layout laid) (judged-accepted _ _ j .0)))
 
 pub read-spec : {M : Type 1} → statement M
 read-spec =

@@ -18,13 +18,18 @@ use borrow.Author.Needs.{needs}
 use Rattle.sample.proofs.write.Statement.{statement}
 use Rattle.sample.proofs.write.Tie as tie
 
--- past the widths
-past-widths : (c : tie.After-enum-told) → tooWide (c .before .before .before .before .before .before .args .raw) ≡ false
+-- the code's points, from the first on: at the start, past the widths, past the readings
+abbrev begun : tie.After-enum-told → tie.After-slice-known
+begun c = c .before .before .before .before .before
+
+abbrev measured : tie.After-enum-told3 → tie.After-enum-told
+measured c = c .before .before .before
+
+past-widths : (c : tie.After-enum-told) → tooWide (begun c .before .args .raw) ≡ false
 unfolding tooWide
 past-widths c = on-unless _ (sym (c .enum-told .given .1) ∙ c .before .before .unless .ensures)
 
--- past the readings
-past-readings : (c : tie.After-enum-told3) → badReading (c .before .before .before .before .before .before .before .before .before .args .raw) ≡ false
+past-readings : (c : tie.After-enum-told3) → badReading (begun (measured c) .before .args .raw) ≡ false
 past-readings c = judged-accepted _ _ (judged-is _ (c .before .before .judge .result) _ (c .before .before .judge .ensures) (c .enum-told3 .given .1)) .0
 
 returns : tie.Need-returns
@@ -39,25 +44,25 @@ returns-2 c =
 returns-3 : tie.Need-returns-3
 unfolding noRoom
 returns-3 c =
-    ap told
-    (sym
-    (write-is _ _ false false true (past-widths (c .before .before .before .before .before .before)) (past-readings (c .before .before .before))
-    (off-unless _ (sym (c .enum-told6 .given .1) ∙ c .before .before .unless2 .ensures))))
+    let good = c .before .before .before in
+    let o = off-unless _ (sym (c .enum-told6 .given .1) ∙ c .before .before .unless2 .ensures) in
+    ap told (sym (write-is _ _ false false true (past-widths (measured good)) (past-readings good) o))
 
 returns-4 : tie.Need-returns-4
 unfolding noRoom bytesOf
 returns-4 c =
-    let past = c .before .before .before .before in
-    let start = past .before .before .before .before .before .before .before .before .before .before .before in
+    let room = c .before .before .before .before in
+    let good = room .before .before .before in
+    let start = begun (measured good) in
     let raw = start .before .args .raw in
     let out = now (start .before .args .out) in
-    let w = past-widths (past .before .before .before .before .before .before) in
-    let o : noRoom size out ≡ false = on-unless _ (sym (past .enum-told5 .given .1) ∙ past .before .before .unless2 .ensures) in
+    let w = past-widths (measured good) in
+    let o : noRoom size out ≡ false = on-unless _ (sym (room .enum-told5 .given .1) ∙ room .before .before .unless2 .ensures) in
     ap told
     (ap (λ (l : List ℕ). (Accepted, l))
     (c .before .before .put .ensures .0
     ∙ put-all size widths (fieldsOf raw) out tt refl (fits raw w (c .before .before .put .ensures .1)) (λ i. start .slice-known .given i .fits) (ltb-false (length out) size o))
-    ∙ sym (write-is raw out false false false w (past-readings (past .before .before .before)) o))
+    ∙ sym (write-is raw out false false false w (past-readings good) o))
 
 pub write-spec : {M : Type 1} → statement M
 write-spec =

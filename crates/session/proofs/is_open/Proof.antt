@@ -10,19 +10,15 @@ use Rattle.session.proofs.is_open.Tie as tie
 returns : tie.Need-returns
 unfolding isOpen
 returns c =
-    let x = c .before .before .before .before .before .before .before .before .before .args .x in
+    let tested = c .before .before .before .before in
+    let x = tested .before .before .before .before .before .args .x in
     λ i. x .opened
-    && c .before .before .before .before .before .before .is-sound .ensures i
-    && c .before .before .before .before .before .is-sound2 .ensures i
+    && tested .before .before .is-sound .ensures i
+    && tested .before .is-sound2 .ensures i
     && leb (x .cause) most
-    && (x .brake .sampled || (c .before .before .before .before .is-opened .ensures i && eqb (x .cause) 0))
+    && (x .brake .sampled || (tested .is-at-opening .ensures i && eqb (x .cause) 0))
 
 pub is-open-spec : {M : Type 1} → statement M
 is-open-spec =
     tie.close
-    (tie.spec
-    (λ c κs. search needs)
-    (λ c κs. search needs)
-    (λ c κs. search needs)
-    (λ c. search needs)
-    returns)
+    (tie.spec (λ c κs. search needs) (λ c κs. search needs) (λ c κs. search needs) (λ c. search needs) returns)

@@ -1,47 +1,49 @@
 -- `session::open` meets its contract. Assumes nothing.
-use mathlib.Core.Path.{sym, ap, _∙_}
+use mathlib.Core.Path.{_≡_, sym, ap, _∙_}
 use mathlib.Core.Bool.{true}
 use denote.Ref.{now}
 use Rattle.refusal.specs.Steps.{kept}
 use Rattle.refusal.specs.declared.Verdict.{Verdict}
 use Rattle.refusal.specs.declared.Verdict.the-variants.{Accepted}
 use Rattle.refusal.proofs.Numbers.{told-one}
+use Rattle.consist.specs.declared.Consist.{Consist}
 use Rattle.consist.specs.Consist.{readConsist}
 use Rattle.brake.specs.declared.Brake.{Brake}
-use Rattle.session.specs.Session.{unchanged, answerTold}
+use Rattle.session.specs.Session.{answer, answerTold}
 use Rattle.session.specs.Open.{openedWith, openedBy, openOf}
 use borrow.Author.Needs.{needs}
 use Rattle.session.proofs.open.Statement.{statement}
 use Rattle.session.proofs.open.Tie as tie
 
+abbrev start : tie.After-read → tie.Start
+start c = c .before .before
+
+-- what the reader says, and that the session is opened by it
+module _ (c : tie.After-read) where
+  abbrev read : Verdict × Consist
+  read = (c .read .result .verdict, c .read .result .consist)
+
+  opened-by : openedBy (start c .args .x) read ≡ openOf (start c .args .x) (now (start c .args .s))
+  unfolding openOf
+  opened-by = ap (openedBy (start c .args .x)) (told-one read (readConsist (now (start c .args .s))) (c .read .ensures))
+
 returns : tie.Need-returns
-unfolding openOf
 returns c =
-    let x = c .before .before .before .before .before .args .x in
-    let read = c .before .before .before .read in
+    let k = c .before .before .before in
     ap answerTold
     (c .refused .ensures
-    ∙ ap (λ (v : Verdict). unchanged (kept v (openedWith (read .result .consist)) x) (read .result .verdict)) (sym (c .before .enum-told2 .given .1))
-    ∙ ap (openedBy x) (told-one (read .result .verdict, read .result .consist) (readConsist (now (c .before .before .before .before .before .args .s))) (read .ensures)))
+    ∙ ap (λ (v : Verdict). answer (kept v (openedWith (read k .1)) (start k .args .x)) (read k .0)) (sym (c .before .enum-told2 .given .1))
+    ∙ opened-by k)
 
 returns-2 : tie.Need-returns-2
-unfolding openOf
 returns-2 c =
-    let x = c .before .before .before .before .before .before .args .x in
-    let read = c .before .before .before .before .read in
+    let k = c .before .before .before .before in
     ap answerTold
-    (ap (λ (k : Brake). unchanged (record { opened = true; consist = read .result .consist; brake = k; cause = 0 }) Accepted) (c .opened .ensures)
-    ∙ ap (λ (v : Verdict). openedBy x (v, read .result .consist)) (sym (c .before .before .enum-told .given .1))
-    ∙ ap (openedBy x) (told-one (read .result .verdict, read .result .consist) (readConsist (now (c .before .before .before .before .before .before .args .s))) (read .ensures)))
+    (ap (λ (b : Brake). answer (record { opened = true; consist = read k .1; brake = b; cause = 0 }) Accepted) (c .at-opening .ensures)
+    ∙ ap (λ (v : Verdict). openedBy (start k .args .x) (v, read k .1)) (sym (c .before .before .enum-told .given .1))
+    ∙ opened-by k)
 
 pub open-spec : {M : Type 1} → statement M
 open-spec =
     tie.close
-    (tie.spec
-    (λ c κs. search needs)
-    (λ c. search needs)
-    (λ c. search needs)
-    (λ c κs. search needs)
-    returns
-    (λ c κs. search needs)
-    returns-2)
+    (tie.spec (λ c κs. search needs) (λ c. search needs) (λ c. search needs) (λ c κs. search needs) returns (λ c κs. search needs) returns-2)

@@ -6,7 +6,7 @@ use native.Mathlib.Omega.{arith}
 use lib.ListN.{length}
 use borrow.Author.Tests.{eqb-true, not-false}
 use Rattle.bits.proofs.Ranges.{and-true-left}
-use Rattle.table.proofs.Judging.{Judged, judged-none, judged-next, kept-wrong, kept-judged, closed-any}
+use Rattle.table.proofs.Judging.{Judged, judged-none, judged-next, lawful-wrong, lawful-judged, closed-any}
 use Rattle.targets.specs.Targets.{targets, targetOf, same}
 use Rattle.targets.proofs.Sound.{counted-is}
 use Rattle.targets.proofs.rows_keep.Statement.{statement}
@@ -22,7 +22,7 @@ returns : tie.Need-returns Inv-loop μ-loop
 returns c =
     let a = c .before .before .before .args in
     let b = same (a .locations .now) (a .speeds .now) in
-    sym (kept-wrong targets _ (targetOf (a .locations .now) (a .speeds .now)) (λ i. true) b (counted-is b (length (a .locations .now))) (c .if1 .taken))
+    sym (lawful-wrong targets _ (targetOf (a .locations .now) (a .speeds .now)) (λ i. true) b (counted-is b (length (a .locations .now))) (c .if1 .taken))
 
 row-at-requires : tie.Need-row-at-requires Inv-loop μ-loop
 row-at-requires c κs =
@@ -43,7 +43,7 @@ returns-2 c =
     let b = same (a .locations .now) (a .speeds .now) in
     let l = c .before .loop in
     sym
-    (kept-judged targets n f (λ i. true) b (counted-is b n) (c .before .before .if1 .left) (l .k) (l .good) (l .before) true (l .inv) (c .loop-test .left)
+    (lawful-judged targets n f (λ i. true) b (counted-is b n) (c .before .before .if1 .left) (l .k) (l .good) (l .before) true (l .inv) (c .loop-test .left)
     (closed-any targets (λ g. refl) n f)
     ∙ and-true (l .good))
 

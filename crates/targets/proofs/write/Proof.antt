@@ -9,9 +9,9 @@ use Rattle.bits.proofs.Ranges.{and-true-left}
 use Rattle.refusal.specs.Number.{told}
 use Rattle.refusal.specs.Written.{noRoom}
 use Rattle.refusal.proofs.Steps.{on-unless, off-unless}
-use Rattle.table.proofs.Writing.{Put, put-none, put-next, put-all-of}
-use Rattle.targets.specs.Targets.{targets, targetOf, same, keptOf}
-use Rattle.targets.proofs.Sound.{facts, write-is}
+use Rattle.table.proofs.Writing.{Put, put-none, put-next, write-is, put-all-of}
+use Rattle.targets.specs.Targets.{targets, targetOf, same, lawfulOf}
+use Rattle.targets.proofs.Sound.{facts}
 use Rattle.targets.proofs.write.Statement.{statement}
 use Rattle.targets.proofs.write.Tie as tie
 
@@ -23,20 +23,24 @@ abbrev μ-loop : tie.MeasureT-loop
 
 returns : tie.Need-returns Inv-loop μ-loop
 returns c =
-    let a = c .before .before .before .before .before .before .before .args in
     let no = off-unless _ (sym (c .enum-told2 .given .1) ∙ c .before .before .unless .ensures) in
-    ap told (sym (write-is (a .locations .now) (a .speeds .now) (a .out .now) false _ (sym (c .before .before .before .rows-keep .ensures) ∙ not-true _ no) refl))
+    ap told (sym (write-is targets _ facts _ _ _ false _ (sym (c .before .before .before .rows-keep .ensures) ∙ not-true _ no) refl))
 
--- past the rules
-past-rules : (c : tie.After-enum-told Inv-loop μ-loop) → let a = c .before .before .before .before .before .before .before .args in keptOf (a .locations .now) (a .speeds .now) ≡ true
+-- at the start, and past the rules
+abbrev begun : tie.After-enum-told Inv-loop μ-loop → tie.After-slice-known Inv-loop μ-loop
+begun c = c .before .before .before .before
+
+abbrev ruled : tie.After-enum-told3 Inv-loop μ-loop → tie.After-enum-told Inv-loop μ-loop
+ruled c = c .before .before .before
+
+past-rules : (c : tie.After-enum-told Inv-loop μ-loop) → let a = begun c .before .before .before .args in lawfulOf (a .locations .now) (a .speeds .now) ≡ true
 past-rules c = sym (c .before .before .before .rows-keep .ensures) ∙ not-false _ (on-unless _ (sym (c .enum-told .given .1) ∙ c .before .before .unless .ensures))
 
 returns-2 : tie.Need-returns-2 Inv-loop μ-loop
 unfolding noRoom
 returns-2 c =
-    let a = c .before .before .before .before .before .before .before .before .before .before .args in
     let no = off-unless _ (sym (c .enum-told4 .given .1) ∙ c .before .before .unless2 .ensures) in
-    ap told (sym (write-is (a .locations .now) (a .speeds .now) (a .out .now) true true (past-rules (c .before .before .before)) no))
+    ap told (sym (write-is targets _ facts _ _ _ true true (past-rules (c .before .before .before)) no))
 
 loop-holds : tie.Need-loop-holds Inv-loop μ-loop
 loop-holds c =
@@ -45,15 +49,15 @@ loop-holds c =
 
 row-at-requires : tie.Need-row-at-requires Inv-loop μ-loop
 row-at-requires c κs =
-    let a = c .before .before .before .before .before .before .before .before .before .before .before .before .args in
+    let a = begun (ruled (c .before .before)) .before .before .before .args in
     let e : length (a .speeds .now) ≡ length (a .locations .now) = eqb-true _ _ (and-true-left _ _ (c .before .loop .inv .right)) in
     omega arith
 
 loop-again : tie.Need-loop-again Inv-loop μ-loop
 loop-again c =
-    let at = c .before .before .before .before .before .before in
-    let slice = at .before .before .before .before .before .before .before .before in
-    put-next targets _ facts (at .loop .inv) (c .before .before .before .before .before .loop-test .taken) (λ i. slice .slice-known .given i .fits) _ (c .before .before .before .before .row-at .ensures) _
+    let row = c .before .before .before .before in
+    let at = row .before .before in
+    put-next targets _ facts (at .loop .inv) (row .before .loop-test .taken) (λ i. begun (ruled (at .before)) .slice-known .given i .fits) _ (row .row-at .ensures) _
     (c .before .before .put .ensures)
 
 returns-3 : tie.Need-returns-3 Inv-loop μ-loop

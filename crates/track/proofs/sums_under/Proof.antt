@@ -11,8 +11,8 @@ use borrow.Author.Needs.{needs}
 use Rattle.whole.proofs.Parts.{parts-eq, add-parts, times-up, times-dn}
 use Rattle.track.specs.declared.Track.{Track}
 use Rattle.track.specs.declared.Sums.{Sums}
-use Rattle.track.specs.Track.{at, feet, gradeFeet, curveFeet}
-use Rattle.track.specs.Steps.{trackOf, sumsOf, plusOf, Within}
+use Rattle.track.specs.Track.{at, feet, gradeFeet, curvatureFeet}
+use Rattle.track.specs.Steps.{trackOf, sumsOf, plusOf, Sized}
 use Rattle.track.proofs.sums_under.Statement.{statement}
 use Rattle.track.proofs.sums_under.Tie as tie
 
@@ -26,7 +26,7 @@ none s g k =
 -- the sums over one segment more
 module _ (t : Track) (rear head k f : ℕ) (s : Sums) (is : s ≡ sumsOf t rear head k) (feet-is : f ≡ min head (at t (k + 1) .start) - max rear (at t k .start)) where
   next : (g : ℤ) → g ≡ at t k .grade → plusOf s f g (at t k .curvature) ≡ sumsOf t rear head (k + 1)
-  unfolding feet gradeFeet curveFeet
+  unfolding feet gradeFeet curvatureFeet
   next g e = rw (is, feet-is, e) (ap (sumsOf t rear head) (sym (add-one k)))
 
   skipped : f ≤ 0 → s ≡ sumsOf t rear head (k + 1)
@@ -36,16 +36,20 @@ module _ (t : Track) (rear head k f : ℕ) (s : Sums) (is : s ≡ sumsOf t rear 
 
 abbrev Inv-loop : tie.InvT-loop
 Inv-loop count starts grades curvatures rear head n sums₀ k₀ sums k =
-    (k ≤ n) × (sums ≡ sumsOf (trackOf count starts grades curvatures) rear head k) × Within k sums
+    (k ≤ n) × (sums ≡ sumsOf (trackOf count starts grades curvatures) rear head k) × Sized k sums
 
 abbrev μ-loop : tie.MeasureT-loop
 μ-loop count starts grades curvatures rear head n sums₀ k₀ sums k = n - k
+
+-- from where a segment's feet are known, the loop's start
+abbrev turn : tie.After-feet-under Inv-loop μ-loop → tie.At-loop Inv-loop μ-loop
+turn c = c .before .before .before .before
 
 segments-requires : tie.Need-segments-requires Inv-loop μ-loop
 segments-requires c κs = search needs
 
 loop-holds : tie.Need-loop-holds Inv-loop μ-loop
-unfolding gradeFeet curveFeet
+unfolding gradeFeet curvatureFeet
 loop-holds c = (omega arith, refl, record { grade = omega arith; curvature = omega arith })
 
 add-next : tie.Need-add-next Inv-loop μ-loop
@@ -80,7 +84,7 @@ element-copy-out-plus-2 c = omega arith
 
 plus-requires : tie.Need-plus-requires Inv-loop μ-loop
 plus-requires c κs =
-    let w = c .before .before .before .before .before .before .before .loop .inv .2 in
+    let w = turn (c .before .before .before) .loop .inv .2 in
     record { grade = omega (arith, w .grade); curvature = omega (arith, w .curvature) }
 
 loop-less : tie.Need-loop-less Inv-loop μ-loop
@@ -88,11 +92,12 @@ loop-less c = omega arith
 
 loop-again : tie.Need-loop-again Inv-loop μ-loop
 loop-again c =
-    let l = c .before .before .before .before .before .before .before .before .loop in (
+    let feet = c .before .before .before .before in
+    let l = turn feet .loop in (
       omega arith,
       c .plus .ensures .sum
-          ∙ next _ _ _ (l .k) _ (l .sums) (l .inv .1) (c .before .before .before .before .feet-under .ensures) _ (toZ-ofZ {w = w16} (record { sfits = c .before .before .plus-arg .given })),
-      c .plus .ensures .within (l .k) (l .inv .2),
+          ∙ next _ _ _ (l .k) _ (l .sums) (l .inv .1) (feet .feet-under .ensures) _ (toZ-ofZ {w = w16} (record { sfits = c .before .before .plus-arg .given })),
+      c .plus .ensures .sized (l .k) (l .inv .2),
     )
 
 loop-less-2 : tie.Need-loop-less-2 Inv-loop μ-loop
@@ -100,7 +105,7 @@ loop-less-2 c = omega arith
 
 loop-again-2 : tie.Need-loop-again-2 Inv-loop μ-loop
 loop-again-2 c =
-    let l = c .before .before .before .before .before .loop in
+    let l = turn (c .before) .loop in
     let w = l .inv .2 in (
       omega arith,
       skipped _ _ _ (l .k) _ (l .sums) (l .inv .1) (c .before .feet-under .ensures) (c .if1 .left),

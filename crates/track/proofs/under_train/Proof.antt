@@ -9,7 +9,7 @@ use borrow.Author.Needs.{needs, sfits-of}
 use Rattle.whole.specs.Floor.{floorDiv}
 use Rattle.track.specs.declared.Track.{Track}
 use Rattle.track.specs.declared.Sums.{Sums}
-use Rattle.track.specs.Track.{gradeUnder, curveUnder, underOf}
+use Rattle.track.specs.Track.{gradeUnder, curvatureUnder, underOf}
 use Rattle.track.specs.Steps.{sumsUnder}
 use Rattle.track.proofs.under_train.Statement.{statement}
 use Rattle.track.proofs.under_train.Tie as tie
@@ -21,12 +21,12 @@ over-zero (negsuc a) = refl
 
 module _ (t : Track) (head length : ℕ) where
   none : length ≡ 0 → record { grade = pos 0; curvature = 0 } ≡ underOf t head length
-  unfolding gradeUnder curveUnder
+  unfolding gradeUnder curvatureUnder
   none e = rw e (ap₂ (λ (z : ℤ) (n : ℕ). record { grade = z; curvature = n }) (over-zero _) (sym (div-zero _)))
 
   averages : (rear : ℕ) (s : Sums) (g : ℤ) (k : ℕ) → rear ≡ head - length → s ≡ sumsUnder t rear head → g ≡ floorDiv (s .grade) (pos length) → k ≡ s .curvature / length →
       record { grade = g; curvature = k } ≡ underOf t head length
-  unfolding gradeUnder curveUnder
+  unfolding gradeUnder curvatureUnder
   averages rear s g k er es eg ek = rw (eg, ek, es, er)
 
 returns : tie.Need-returns
@@ -46,10 +46,11 @@ curvature-over-requires c κs = search needs
 
 returns-2 : tie.Need-returns-2
 returns-2 c =
-    let a = c .before .before .before .before .before .before .args in
-    let s = c .before .before .before .sums-under in
+    let summed = c .before .before .before in
+    let a = summed .before .before .before .args in
+    let s = summed .sums-under in
     let back = toZ-ofZ {w = w64} {z = s .result .grade} (record { sfits = c .before .before .struct-told .given .0 .1 }) in
-    averages _ (a .head) (a .length) _ (s .result) _ _ (c .before .before .before .before .rear-of .ensures) (s .ensures)
+    averages _ (a .head) (a .length) _ (s .result) _ _ (summed .before .rear-of .ensures) (s .ensures)
     (toZ-ofZ (sfits-of (c .before .grade-over .ok)) ∙ c .before .grade-over .ensures ∙ ap (λ (z : ℤ). floorDiv z (pos (a .length))) back)
     (c .curvature-over .ensures)
 

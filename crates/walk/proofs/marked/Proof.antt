@@ -1,4 +1,4 @@
--- `walk::marked` meets its contract, place by place. Assumes nothing.
+-- `walk::marked` meets its contract, arrival by arrival. Assumes nothing.
 use mathlib.Core.Path.{_≡_, refl, ap, _∙_}
 use mathlib.Core.List.{List}
 use Prim.Native.Nat.{ℕ, _+_, _-_, _≤_, _<_}
@@ -12,28 +12,28 @@ use Rattle.walk.specs.Marks.{markOf}
 use Rattle.walk.proofs.marked.Statement.{statement}
 use Rattle.walk.proofs.marked.Tie as tie
 
--- the places before i are marked, the others are as they were
-record Until (run : Run) (speeds before : List ℕ) (i : ℕ) (places : List ℕ) : Type 0 where
-  size : length places ≡ most
-  done : (k : ℕ) → k < i → getD places k 0 ≡ markOf run (getD speeds k 0) (getD before k 0)
-  left : (k : ℕ) → i ≤ k → getD places k 0 ≡ getD before k 0
+-- the arrivals before i are marked, the others are as they were
+record Until (run : Run) (speeds before : List ℕ) (i : ℕ) (arrivals : List ℕ) : Type 0 where
+  size : length arrivals ≡ most
+  done : (k : ℕ) → k < i → getD arrivals k 0 ≡ markOf run (getD speeds k 0) (getD before k 0)
+  left : (k : ℕ) → i ≤ k → getD arrivals k 0 ≡ getD before k 0
 
-further : (run : Run) (speeds before : List ℕ) (i v : ℕ) (places : List ℕ) → i < most → Until run speeds before i places
-    → v ≡ markOf run (getD speeds i 0) (getD places i 0) → Until run speeds before (i + 1) (set places i v)
-further run speeds before i v places h u e =
+further : (run : Run) (speeds before : List ℕ) (i v : ℕ) (arrivals : List ℕ) → i < most → Until run speeds before i arrivals
+    → v ≡ markOf run (getD speeds i 0) (getD arrivals i 0) → Until run speeds before (i + 1) (set arrivals i v)
+further run speeds before i v arrivals h u e =
     record {
-      size = length-set places i v ∙ u .size;
-      done = below-more (λ (k : ℕ). getD (set places i v) k 0 ≡ markOf run (getD speeds k 0) (getD before k 0)) i
-          (λ k l. getD-set-other places i k v 0 (λ z. omega arith) ∙ u .done k l)
-          (getD-set-same places i v 0 (omega (arith, u .size)) ∙ e ∙ ap (markOf run (getD speeds i 0)) (u .left i (omega arith)));
-      left = λ k l. getD-set-other places i k v 0 (λ z. omega arith) ∙ u .left k (omega arith);
+      size = length-set arrivals i v ∙ u .size;
+      done = below-more (λ (k : ℕ). getD (set arrivals i v) k 0 ≡ markOf run (getD speeds k 0) (getD before k 0)) i
+          (λ k l. getD-set-other arrivals i k v 0 (λ z. omega arith) ∙ u .done k l)
+          (getD-set-same arrivals i v 0 (omega (arith, u .size)) ∙ e ∙ ap (markOf run (getD speeds i 0)) (u .left i (omega arith)));
+      left = λ k l. getD-set-other arrivals i k v 0 (λ z. omega arith) ∙ u .left k (omega arith);
     }
 
 abbrev Inv-loop : tie.InvT-loop
-Inv-loop run speeds places₀ i₀ places i = (i ≤ most) × Until run speeds places₀ i places
+Inv-loop run speeds places₀ i₀ arrivals i = (i ≤ most) × Until run speeds places₀ i arrivals
 
 abbrev μ-loop : tie.MeasureT-loop
-μ-loop run speeds places₀ i₀ places i = most - i
+μ-loop run speeds places₀ i₀ arrivals i = most - i
 
 loop-holds : tie.Need-loop-holds Inv-loop μ-loop
 loop-holds c = (omega arith, record { size = omega arith; done = λ k h. absurd (omega arith); left = λ k h. refl })
@@ -53,11 +53,11 @@ array-read-mark-2 c = omega arith
 mark-requires : tie.Need-mark-requires Inv-loop μ-loop
 mark-requires c κs = tt
 
-mul-places : tie.Need-mul-places Inv-loop μ-loop
-mul-places c = omega arith
+mul-arrivals : tie.Need-mul-arrivals Inv-loop μ-loop
+mul-arrivals c = omega arith
 
-array-write-places : tie.Need-array-write-places Inv-loop μ-loop
-array-write-places c = omega arith
+array-write-arrivals : tie.Need-array-write-arrivals Inv-loop μ-loop
+array-write-arrivals c = omega arith
 
 add-i : tie.Need-add-i Inv-loop μ-loop
 add-i c = omega arith
@@ -68,7 +68,7 @@ loop-less c = omega arith
 loop-again : tie.Need-loop-again Inv-loop μ-loop
 loop-again c =
     let l = c .before .before .loop in
-    (omega arith, further _ _ _ (l .i) _ (l .places) (c .before .loop-test .taken) (l .inv .1) (c .mark .ensures))
+    (omega arith, further _ _ _ (l .i) _ (l .arrivals) (c .before .loop-test .taken) (l .inv .1) (c .mark .ensures))
 
 returns : tie.Need-returns Inv-loop μ-loop
 returns c =
@@ -87,8 +87,8 @@ marked-spec =
     mul-mark-2
     array-read-mark-2
     mark-requires
-    mul-places
-    array-write-places
+    mul-arrivals
+    array-write-arrivals
     add-i
     loop-less
     loop-again

@@ -1,20 +1,21 @@
--- `walk::next_mark` meets its contract, place by place. Assumes nothing.
+-- `walk::next_mark` meets its contract, arrival by arrival. Assumes nothing.
 use mathlib.Core.Path.{_≡_}
 use Prim.Native.Nat.{ℕ, _*_, _-_, _≤_, _<_}
 use native.Mathlib.Nat.{le-trans}
 use native.Mathlib.Omega.{arith}
 use lib.ListN.{getD}
 use borrow.Author.Count.{below-more}
+use Rattle.record.specs.Location.{noStop}
 use Rattle.targets.specs.Targets as targets
 use Rattle.walk.proofs.next_mark.Statement.{statement}
 use Rattle.walk.proofs.next_mark.Tie as tie
 
 abbrev Inv-loop : tie.InvT-loop
-Inv-loop places speeds most₀ i₀ most i =
-    (i ≤ targets.most) × ((k : ℕ) → k < i → getD places k 0 ≡ 16777215 → getD speeds k 0 * getD speeds k 0 ≤ most)
+Inv-loop arrivals speeds most₀ i₀ most i =
+    (i ≤ targets.most) × ((k : ℕ) → k < i → getD arrivals k 0 ≡ noStop → getD speeds k 0 * getD speeds k 0 ≤ most)
 
 abbrev μ-loop : tie.MeasureT-loop
-μ-loop places speeds most₀ i₀ most i = targets.most - i
+μ-loop arrivals speeds most₀ i₀ most i = targets.most - i
 
 loop-holds : tie.Need-loop-holds Inv-loop μ-loop
 loop-holds c = (omega arith, λ k h. absurd (omega arith))

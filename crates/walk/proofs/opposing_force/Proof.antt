@@ -61,6 +61,10 @@ module _ (c : tie.Start) where
   unfolding opposing
   whole-fits = fits-abs (omega (arith, opposing-most words (c .pre)))
 
+-- from where the grade is read, the start
+abbrev entry : tie.After-struct-told → tie.Start
+entry c = c .before .before .before .before .before
+
 cast-w : tie.Need-cast-w
 cast-w c = search needs
 
@@ -110,29 +114,29 @@ cast-pull : tie.Need-cast-pull
 cast-pull c = search needs
 
 mul-pull-2 : tie.Need-mul-pull-2
-mul-pull-2 c = let s = c .before .before .before .before .before in op-fits _*ℤ_ (factor-holds s) (grade-holds s) (pull-fits s)
+mul-pull-2 c = let s = entry c in op-fits _*ℤ_ (factor-holds s) (grade-holds s) (pull-fits s)
 
 mul-bend : tie.Need-mul-bend
-mul-bend c = omega (arith, bend-in (c .before .before .before .before .before .before))
+mul-bend c = omega (arith, bend-in (entry (c .before)))
 
 mul-bend-2 : tie.Need-mul-bend-2
-mul-bend-2 c = omega (arith, bend-in (c .before .before .before .before .before .before))
+mul-bend-2 c = omega (arith, bend-in (entry (c .before)))
 
 cast-result : tie.Need-cast-result
-cast-result c = fits-abs (omega (arith, drag-in (c .before .before .before .before .before .before)))
+cast-result c = fits-abs (omega (arith, drag-in (entry (c .before))))
 
 add-result : tie.Need-add-result
-add-result c = let s = c .before .before .before .before .before .before in op-fits _+ℤ_ (drag-holds s) (pulled-holds s) (sum-fits s)
+add-result c = let s = entry (c .before) in op-fits _+ℤ_ (drag-holds s) (pulled-holds s) (sum-fits s)
 
 cast-result-2 : tie.Need-cast-result-2
-cast-result-2 c = fits-abs (omega (arith, bend-in (c .before .before .before .before .before .before)))
+cast-result-2 c = fits-abs (omega (arith, bend-in (entry (c .before))))
 
 add-result-2 : tie.Need-add-result-2
-add-result-2 c = let s = c .before .before .before .before .before .before in op-fits _+ℤ_ (sum-holds s) (bend-holds s) (whole-fits s)
+add-result-2 c = let s = entry (c .before) in op-fits _+ℤ_ (sum-holds s) (bend-holds s) (whole-fits s)
 
 returns : tie.Need-returns
 unfolding opposing
-returns c = let s = c .before .before .before .before .before .before in op-holds _+ℤ_ (sum-holds s) (bend-holds s) (whole-fits s) .reads
+returns c = let s = entry (c .before) in op-holds _+ℤ_ (sum-holds s) (bend-holds s) (whole-fits s) .reads
 
 pub opposing-force-spec : {M : Type 1} → statement M
 opposing-force-spec =

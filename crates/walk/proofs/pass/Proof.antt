@@ -1,4 +1,4 @@
--- `walk::pass` meets its contract: after each step, what is found at a place or the rest of the walk is what the whole walk finds.
+-- `walk::pass` meets its contract: after each step, what is found at an arrival or the rest of the walk is what the whole walk finds.
 -- Assumes nothing.
 use mathlib.Core.Path.{_≡_, ap, _∙_}
 use Prim.Native.Nat.{ℕ, _-_, _≤_, _<_}
@@ -11,26 +11,26 @@ use Rattle.track.specs.declared.Track.{Track}
 use Rattle.track.specs.declared.Under.{Under}
 use Rattle.track.specs.Track.{underOf}
 use Rattle.track.specs.Steps.{trackOf}
-use Rattle.track.proofs.Gentle.{gentle-grade, gentle-curve}
+use Rattle.track.proofs.Gentle.{gentle-grade, gentle-curvature}
 use Rattle.targets.specs.Targets.{most}
 use Rattle.walk.specs.Curve.{forceAt}
 use Rattle.walk.specs.declared.Run.{Run}
 use Rattle.walk.specs.Step.{groundOf, stepOf}
 use Rattle.walk.specs.Marks.{Marked, Open, even}
-use Rattle.walk.proofs.Places.{Walked, walk-begins, unmarked, answer-fast, answer-stop, answer-never, walks-on}
+use Rattle.walk.proofs.Arrivals.{Walked, walk-begins, unmarked, answer-fast, answer-stop, answer-never, walks-on}
 use Rattle.walk.proofs.pass.Statement.{statement}
 use Rattle.walk.proofs.pass.Tie as tie
 
 abbrev Inv-loop : tie.InvT-loop
-Inv-loop c curve count starts grades curvatures head speed speeds length run₀ places₀ next₀ n₀ run places next n =
-    Walked c (forceAt (c .rated) curve) (groundOf (trackOf count starts grades curvatures) (c .length)) head speed speeds n run places
-    × Open speeds places next
+Inv-loop c curve count starts grades curvatures head speed speeds length run₀ arrivals₀ next₀ n₀ run arrivals next n =
+    Walked c (forceAt (c .rated) curve) (groundOf (trackOf count starts grades curvatures) (c .length)) head speed speeds n run arrivals
+    × Open speeds arrivals next
 
 abbrev μ-loop : tie.MeasureT-loop
-μ-loop c curve count starts grades curvatures head speed speeds length run₀ places₀ next₀ n₀ run places next n = 2048 - n
+μ-loop c curve count starts grades curvatures head speed speeds length run₀ arrivals₀ next₀ n₀ run arrivals next n = 2048 - n
 
-carried : {r : Run} {speeds before places places′ : List ℕ} {next next′ : ℕ} → places′ ≡ places → next′ ≡ next
-    → Marked r speeds before places → Open speeds places next → Marked r speeds before places′ × Open speeds places′ next′
+carried : {r : Run} {speeds before arrivals arrivals′ : List ℕ} {next next′ : ℕ} → arrivals′ ≡ arrivals → next′ ≡ next
+    → Marked r speeds before arrivals → Open speeds arrivals next → Marked r speeds before arrivals′ × Open speeds arrivals′ next′
 carried e f m o = rw (e, f) (m, o)
 
 -- where both arms of the marking meet
@@ -47,7 +47,7 @@ module _ (c : tie.Joined2 Inv-loop μ-loop) where
   abbrev force : ℕ → ℕ
   force = forceAt (entry .args .c .rated) (entry .args .curve)
 
-  marks : Marked (here .loop .run) (entry .args .speeds) (here .loop .places) (c .if2 .places) × Open (entry .args .speeds) (c .if2 .places) (c .if2 .next)
+  marks : Marked (here .loop .run) (entry .args .speeds) (here .loop .arrivals) (c .if2 .arrivals) × Open (entry .args .speeds) (c .if2 .arrivals) (c .if2 .next)
   marks =
       let i = here .loop .inv in
       ⊎-elim (λ w. carried (w .3) (w .4) (w .1 .ensures) (w .2 .ensures))
@@ -136,7 +136,7 @@ stepped-requires c κs =
       rated = s .pre .rated;
       applied = record { curve = s .pre .curve; clock = omega (arith, w .clock-most, w .steps) };
       grade = rw (c .under-train .ensures) (gentle-grade (track j) (s .pre .track) (r .head) (s .args .c .length));
-      curvature = rw (c .under-train .ensures) (gentle-curve (track j) (s .pre .track) (r .head) (s .args .c .length));
+      curvature = rw (c .under-train .ensures) (gentle-curvature (track j) (s .pre .track) (r .head) (s .args .c .length));
       head = omega (arith, w .head-is, w .steps, s .pre .head);
       some = moves (c .before);
       slow = slow j;

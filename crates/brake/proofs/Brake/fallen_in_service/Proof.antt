@@ -10,10 +10,10 @@ use Rattle.brake.proofs.Brake.fallen_in_service.Tie as tie
 dropped : (c : tie.After-drop) → let start = c .before .before .args in c .drop .result ≡ dropOf (start .self) (levelOf (start .self) (start .r)) (start .r .elapsed)
 dropped c =
     let start = c .before .before .args in
-    c .drop .ensures ∙ ap (λ (level : ℕ). dropOf (start .self) level (start .r .elapsed)) (c .before .greater .ensures)
+    c .drop .ensures ∙ ap (λ (level : ℕ). dropOf (start .self) level (start .r .elapsed)) (c .before .higher .ensures)
 
-greater-requires : tie.Need-greater-requires
-greater-requires c κs = search needs
+higher-requires : tie.Need-higher-requires
+higher-requires c κs = search needs
 
 drop-requires : tie.Need-drop-requires
 drop-requires c κs = search needs
@@ -35,4 +35,4 @@ returns c = c .fallen .ensures ∙ ap (λ (drop : ℕ). fallBy (c .before .befor
 pub fallen-in-service-spec : {M : Type 1} → statement M
 fallen-in-service-spec =
     tie.close
-    (tie.spec greater-requires drop-requires cast-fallen mul-fallen fallen-requires returns)
+    (tie.spec higher-requires drop-requires cast-fallen mul-fallen fallen-requires returns)

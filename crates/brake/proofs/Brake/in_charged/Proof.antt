@@ -16,14 +16,14 @@ returns : tie.Need-returns
 unfolding inCharged
 returns c = rw (sym (c .before .before .is-application .ensures) ∙ c .before .if1 .taken) (c .applying .ensures)
 
-greater-requires : tie.Need-greater-requires
-greater-requires c κs = search needs
+higher-requires : tie.Need-higher-requires
+higher-requires c κs = search needs
 
 returns-2 : tie.Need-returns-2
 unfolding inCharged
-returns-2 c = rw (sym (c .before .before .is-application .ensures) ∙ c .before .if1 .left) (ap (withHold (c .before .before .before .args .self)) (c .greater .ensures))
+returns-2 c = rw (sym (c .before .before .is-application .ensures) ∙ c .before .if1 .left) (ap (withHold (c .before .before .before .args .self)) (c .higher .ensures))
 
 pub in-charged-spec : {M : Type 1} → statement M
 in-charged-spec =
     tie.close
-    (tie.spec is-application-requires applying-requires returns greater-requires returns-2)
+    (tie.spec is-application-requires applying-requires returns higher-requires returns-2)

@@ -17,8 +17,8 @@ returns : tie.Need-returns
 unfolding inCharging
 returns c = rw (sym (c .before .before .is-application .ensures) ∙ c .before .if1 .taken) (c .applying .ensures)
 
-greater-requires : tie.Need-greater-requires
-greater-requires c κs = search needs
+higher-requires : tie.Need-higher-requires
+higher-requires c κs = search needs
 
 recharged-requires : tie.Need-recharged-requires
 recharged-requires c κs = search needs
@@ -28,7 +28,7 @@ unfolding inCharging
 returns-2 c =
     let start = c .before .before .before .before .args in
     rw (sym (c .before .before .before .is-application .ensures) ∙ c .before .before .if1 .left)
-    (c .recharged .ensures ∙ ap (λ (hold : ℕ). recharged (start .c) (withHold (start .self) hold) (start .r)) (c .before .greater .ensures))
+    (c .recharged .ensures ∙ ap (λ (hold : ℕ). recharged (start .c) (withHold (start .self) hold) (start .r)) (c .before .higher .ensures))
 
 pub in-charging-spec : {M : Type 1} → statement M
 in-charging-spec =
@@ -37,6 +37,6 @@ in-charging-spec =
     is-application-requires
     applying-requires
     returns
-    greater-requires
+    higher-requires
     recharged-requires
     returns-2)

@@ -1,6 +1,6 @@
 -- `Brake::rear` meets its contract. Assumes nothing.
 use borrow.Author.Needs.{needs}
-use Rattle.brake.specs.Readings.{rearOf}
+use Rattle.brake.specs.Readings.{rearTaken}
 use Rattle.brake.proofs.Brake.rear.Statement.{statement}
 use Rattle.brake.proofs.Brake.rear.Tie as tie
 
@@ -11,15 +11,15 @@ enum-told : tie.Need-enum-told
 enum-told c = search needs
 
 returns : tie.Need-returns
-unfolding rearOf
+unfolding rearTaken
 returns c = search needs
 
 returns-2 : tie.Need-returns-2
-unfolding rearOf
+unfolding rearTaken
 returns-2 c = search needs
 
 returns-3 : tie.Need-returns-3
-unfolding rearOf
+unfolding rearTaken
 returns-3 c = search needs
 
 pub rear-spec : {M : Type 1} → statement M

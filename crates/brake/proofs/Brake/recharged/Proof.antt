@@ -16,24 +16,32 @@ returns : tie.Need-returns
 unfolding recharged
 returns c = rw (le-leb _ _ (c .before .if1 .taken)) (c .in-state .ensures)
 
-cast-lesser : tie.Need-cast-lesser
-cast-lesser c = search needs
+cast-gained : tie.Need-cast-gained
+cast-gained c = search needs
 
 over-requires : tie.Need-over-requires
 over-requires c κs = search needs
 
-add-lesser : tie.Need-add-lesser
-add-lesser c = omega (arith, c .over .ensures .1)
+add-gained : tie.Need-add-gained
+add-gained c = omega (arith, c .over .ensures .1)
+
+cast-lesser : tie.Need-cast-lesser
+cast-lesser c = search needs
 
 lesser-requires : tie.Need-lesser-requires
 lesser-requires c κs = search needs
 
+cast-self : tie.Need-cast-self
+cast-self c = search needs
+
 returns-2 : tie.Need-returns-2
 unfolding recharged
 returns-2 c =
-    let start = c .before .before .before .before .before .before .args in
-    rw (lt-leb _ _ (c .before .before .before .if1 .left))
-    (ap (withA (start .self)) (c .lesser .ensures ∙ ap (λ (gain : ℕ). min (start .r .nominal) (start .self .a + gain)) (c .before .over .ensures .0)))
+    let gained = c .before .before in
+    let test = gained .before .before in
+    let start = test .before .before .before .args in
+    rw (lt-leb _ _ (test .if1 .left))
+    (ap (withA (start .self)) (c .lesser .ensures ∙ ap (λ (gain : ℕ). min (start .r .nominal) (start .self .a + gain)) (gained .over .ensures .0)))
 
 pub recharged-spec : {M : Type 1} → statement M
 recharged-spec =
@@ -41,8 +49,10 @@ recharged-spec =
     (tie.spec
     in-state-requires
     returns
-    cast-lesser
+    cast-gained
     over-requires
-    add-lesser
+    add-gained
+    cast-lesser
     lesser-requires
+    cast-self
     returns-2)

@@ -10,9 +10,12 @@ above-requires c κs = search needs
 above-requires-2 : tie.Need-above-requires-2
 above-requires-2 c κs = search needs
 
+cast-result : tie.Need-cast-result
+cast-result c = search needs
+
 returns : tie.Need-returns
 unfolding nominalOf
 returns c = search needs
 
 pub nominal-spec : {M : Type 1} → statement M
-nominal-spec = tie.close (tie.spec above-requires above-requires-2 returns)
+nominal-spec = tie.close (tie.spec above-requires above-requires-2 cast-result returns)

@@ -10,9 +10,6 @@ use Rattle.brake.proofs.rules.fall_emergency.Tie as tie
 above-requires : tie.Need-above-requires
 above-requires c κs = search needs
 
-cast-ceil-div : tie.Need-cast-ceil-div
-cast-ceil-div c = search needs
-
 ceil-div-requires : tie.Need-ceil-div-requires
 ceil-div-requires c κs = search needs
 
@@ -25,4 +22,4 @@ returns c = c .ceil-div .ensures ∙ ap (λ (n : ℕ). ceilDiv n 10) (c .before 
 
 pub fall-emergency-spec : {M : Type 1} → statement M
 fall-emergency-spec =
-    tie.close (tie.spec above-requires cast-ceil-div ceil-div-requires cast-result returns)
+    tie.close (tie.spec above-requires ceil-div-requires cast-result returns)

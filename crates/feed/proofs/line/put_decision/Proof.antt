@@ -13,7 +13,8 @@ use Rattle.feed.proofs.line.put_decision.Tie as tie
 returns : tie.Need-returns
 unfolding decisionText
 returns c =
-    let s = c .before .before .before .before .before .before .args in
+    let lent = c .before .before in
+    let s = lent .before .before .before .before .args in
     let e =
     c .put-numbers .ensures
     ∙ ap (λ (n : ℕ). putLast (spaced (s .d .time ∷ s .d .state ∷ n ∷ s .d .cause ∷ s .d .stop ∷ [])) (s .out .now)) (same-bit (s .d .penalty)) in

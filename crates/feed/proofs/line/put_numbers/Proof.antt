@@ -30,8 +30,11 @@ put-item-requires c κs =
 
 loop-again : tie.Need-loop-again Inv-loop μ-loop
 loop-again c =
-    let l = c .before .before .before .before .before .before .loop in
-    let ns = c .before .before .before .before .before .before .before .before .before .args .ns .now in
+    let put = c .before .before in
+    let turn = put .before .before in
+    let at = turn .before .before in
+    let l = at .loop in
+    let ns = at .before .before .before .args .ns .now in
     let j = l .i - 1 in
     let e : suc j ≡ l .i = omega arith in
     let d : drop j ns ≡ getD ns j 0 ∷ drop (l .i) ns =
@@ -40,9 +43,9 @@ loop-again c =
       omega arith,
       refl,
       more-stands _ (drop (l .i) ns) (l .out) _ (getD ns j 0) (11 * j) (11 * l .i) (l .at) _
-          (c .before .before .before .before .shared-slice-known2 .given j .fits) (omega arith) (l .inv .2)
-          (subst (λ (b : ℕ). (c .before .before .put-item .result, c .before .before .put-item .last .1 .1 .1 .0) ≡ putBefore (decimal (getD ns j 0) ++ b ∷ []) (l .at) (l .out))
-          (l .inv .1) (c .before .before .put-item .ensures)),
+          (turn .shared-slice-known2 .given j .fits) (omega arith) (l .inv .2)
+          (subst (λ (b : ℕ). (put .put-item .result, put .put-item .last .1 .1 .1 .0) ≡ putBefore (decimal (getD ns j 0) ++ b ∷ []) (l .at) (l .out))
+          (l .inv .1) (put .put-item .ensures)),
     )
 
 same-length : tie.Need-same-length Inv-loop μ-loop
@@ -61,11 +64,7 @@ put-numbers-spec =
     Inv-loop
     μ-loop
     loop-holds
-    (λ c. omega arith)
-    (λ c. omega arith)
-    (λ c. omega arith)
-    put-item-requires
-    (λ c. omega arith)
-    loop-again
+    (λ c. omega arith) (λ c. omega arith) (λ c. omega arith) put-item-requires
+    (λ c. omega arith) loop-again
     same-length
     returns)

@@ -15,8 +15,9 @@ returns c =
 
 returns-2 : tie.Need-returns-2
 returns-2 c =
-    let s = c .before .before .before .before .before .before .args in (
-      c .put-refusal .ensures .0 ∙ ap (λ (v : Verdict). putLast (sampleText v (s .s .now)) (s .out .now)) (sym (c .before .before .before .v .given .1)),
+    let refused = c .before .before .before in
+    let s = refused .before .before .before .args in (
+      c .put-refusal .ensures .0 ∙ ap (λ (v : Verdict). putLast (sampleText v (s .s .now)) (s .out .now)) (sym (refused .v .given .1)),
       c .put-refusal .ensures .1,
     )
 

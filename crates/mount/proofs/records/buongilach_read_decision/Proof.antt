@@ -59,9 +59,10 @@ returns c =
 returns-2 : tie.Need-returns-2
 unfolding decisionRead noRoom
 returns-2 c =
-    let k = c .before .before .before .before .before .before in
+    let right = c .before .before .before .before in
+    let k = right .before .before in
     told-refused (numbersOf (decisionIn (decision k))) (numbers k) (c .number .ensures)
-    (past k (c .before .before .before .before .enum-told .given .1)
+    (past k (right .enum-told .given .1)
     ∙ given _ NoRoom [] tt (off-unless _ (sym (c .before .enum-told4 .given .1) ∙ c .before .before .before .unless .ensures)))
 
 put-numbers-requires : tie.Need-put-numbers-requires
@@ -70,26 +71,19 @@ put-numbers-requires c κs = ltb-false _ _ (on-unless _ (sym (c .before .before 
 returns-3 : tie.Need-returns-3
 unfolding decisionRead noRoom
 returns-3 c =
-    let k = c .before .before .before .before .before .before .before .before .before .before in
-    let a = c .before .before .before .before .before .before .before .before .enum-told .given .1 in
+    let roomy = c .before .before .before .before .before in
+    let right = roomy .before .before .before in
+    let k = right .before .before in
+    let a = right .enum-told .given .1 in
     ap (λ (ns : List ℕ). (0, ns)) (c .before .before .put-numbers .ensures ∙ sym (ap (λ (d : Decision). numbersOf d ++ drop decisionNumbers (numbers k)) (reads k a)))
     ∙ told-accepted (numbersOf (decisionIn (decision k))) (numbers k)
-    (past k a ∙ last-passed _ NoRoom (on-unless _ (sym (c .before .before .before .before .before .enum-told3 .given .1) ∙ c .before .before .before .before .before .before .before .unless .ensures)))
+    (past k a ∙ last-passed _ NoRoom (on-unless _ (sym (roomy .enum-told3 .given .1) ∙ roomy .before .before .unless .ensures)))
 
 pub buongilach-read-decision-spec : {M : Type 1} → statement M
 buongilach-read-decision-spec =
     tie.close
     (tie.spec
-    (λ c κs. search needs)
-    (λ c. search needs)
-    (λ c. search needs)
-    (λ c κs. search needs)
-    returns
-    (λ c κs. search needs)
-    (λ c. search needs)
-    (λ c. search needs)
-    (λ c κs. search needs)
-    returns-2
+    (λ c κs. search needs) (λ c. search needs) (λ c. search needs) (λ c κs. search needs) returns
+    (λ c κs. search needs) (λ c. search needs) (λ c. search needs) (λ c κs. search needs) returns-2
     put-numbers-requires
-    (λ c. search needs)
-    returns-3)
+    (λ c. search needs) returns-3)

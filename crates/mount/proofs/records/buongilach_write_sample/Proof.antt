@@ -47,18 +47,20 @@ returns c =
 returns-2 : tie.Need-returns-2
 unfolding sampleWritten writeSample
 returns-2 c =
-    let past = c .before .before .before .before .before .before .before .before in
+    let put = c .before .before .before in
+    let read = put .before .before in
+    let past = read .before .before .before in
     let k = past .before .before .before .before in
     let raw = ofFields (fields k) in
     let is-raw : _ ≡ raw = (λ i. record {
       time = k .args .time;
       head = k .args .head;
-      speed = c .before .before .before .before .before .before .before .float-of .ensures i;
-      front = c .before .before .before .before .before .before .float-of2 .ensures i;
-      rear = (c .before .before .before .before .before .rear-of .ensures ∙ sym (ap (λ (b : Bool). rearOf b (k .args .rear)) (lost (eqb (k .args .present) 0)))) i;
+      speed = read .before .before .float-of .ensures i;
+      front = read .before .float-of2 .ensures i;
+      rear = (read .rear-of .ensures ∙ sym (ap (λ (b : Bool). rearOf b (k .args .rear)) (lost (eqb (k .args .present) 0)))) i;
     }) in
     told-of (c .verdict-number .ensures)
-    (c .before .before .before .write .ensures
+    (put .write .ensures
     ∙ ap (λ (x : RawSample). told (writeSample x (out k))) is-raw
     ∙ sym
     (ap (λ (v : Verdict). told (written v (bytesOf raw) (out k)))
@@ -68,15 +70,5 @@ pub buongilach-write-sample-spec : {M : Type 1} → statement M
 buongilach-write-sample-spec =
     tie.close
     (tie.spec
-    (λ c κs. search needs)
-    (λ c. search needs)
-    (λ c. search needs)
-    (λ c κs. search needs)
-    returns
-    (λ c κs. search needs)
-    (λ c κs. search needs)
-    (λ c κs. search needs)
-    (λ c κs. search needs)
-    (λ c κs. search needs)
-    (λ c. search needs)
-    returns-2)
+    (λ c κs. search needs) (λ c. search needs) (λ c. search needs) (λ c κs. search needs) returns
+    (λ c κs. search needs) (λ c κs. search needs) (λ c κs. search needs) (λ c κs. search needs) (λ c κs. search needs) (λ c. search needs) returns-2)

@@ -10,12 +10,6 @@ use borrow.Author.Needs.{needs}
 use Rattle.session.proofs.admission.last_start.Statement.{statement}
 use Rattle.session.proofs.admission.last_start.Tie as tie
 
-sub-last : tie.Need-sub-last
-sub-last c = search needs
-
-segment-at-requires : tie.Need-segment-at-requires
-segment-at-requires c κs = search needs
-
 last-is : (c : tie.Joined1) → c .if1 .last ≡ count (now (c .before .before .args .p)) - 1
 last-is c = ⊎-elim (λ w. omega arith) (λ w. omega arith) (c .if1 .came)
 
@@ -23,4 +17,4 @@ returns : tie.Need-returns
 returns c = ap (λ (g : Segment). g .start) (c .segment-at .ensures ∙ ap (segmentAt (now (c .before .before .before .args .p))) (last-is (c .before)))
 
 pub last-start-spec : {M : Type 1} → statement M
-last-start-spec = tie.close (tie.spec sub-last segment-at-requires returns)
+last-start-spec = tie.close (tie.spec (λ c. search needs) (λ c κs. search needs) returns)

@@ -1,50 +1,37 @@
 -- `session::admission::not_covered` meets its contract. Assumes nothing.
 use mathlib.Core.Path.{_≡_}
+use mathlib.Core.Bool.{_||_}
 use mathlib.Core.Logic.{⊎-elim}
-use Prim.Native.Nat.{_-_}
+use Prim.Native.Nat.{_+_, _-_}
 use native.Mathlib.Omega.{arith}
-use Rattle.session.specs.Sample.{notCovered}
+use lib.Dec.{ltb}
+use Rattle.walk.specs.Walk.{reach}
+use Rattle.session.specs.Table.{notCovered}
 use borrow.Author.Needs.{needs}
 use Rattle.session.proofs.admission.not_covered.Statement.{statement}
 use Rattle.session.proofs.admission.not_covered.Tie as tie
 
-segment-at-requires : tie.Need-segment-at-requires
-segment-at-requires c κs = search needs
+-- what is asked of the profile
+abbrev asked : tie.Joined1 → tie.After-last-start
+asked c = c .before .before .before
 
-last-start-requires : tie.Need-last-start-requires
-last-start-requires c κs = search needs
+abbrev start : tie.After-last-start → tie.Start
+start c = c .before .before .before
 
-cast-length : tie.Need-cast-length
-cast-length c = search needs
-
-sub-rear : tie.Need-sub-rear
-sub-rear c = search needs
-
-cast-result : tie.Need-cast-result
-cast-result c = search needs
-
-cast-result-2 : tie.Need-cast-result-2
-cast-result-2 c = search needs
-
-add-result : tie.Need-add-result
-add-result c = search needs
-
-rear-is : (c : tie.Joined1) → c .if1 .rear ≡ c .before .before .before .before .before .before .args .m .head - c .before .before .before .before .before .before .args .c .length
+rear-is : (c : tie.Joined1) → let a = start (asked c) .args in c .if1 .rear ≡ a .m .head - a .c .length
 rear-is c = ⊎-elim (λ w. omega arith) (λ w. omega arith) (c .if1 .came)
 
 returns : tie.Need-returns
 unfolding notCovered
-returns c = rw (rear-is (c .before .before), c .before .before .before .before .before .before .segment-at .ensures, c .before .before .before .before .before .last-start .ensures)
+returns c =
+    let k = asked (c .before .before) in
+    let a = start k .args in
+    λ i. ltb (a .m .head) (a .c .length)
+    || ltb (rear-is (c .before .before) i) (k .before .segment-at .ensures i .start)
+    || ltb (k .last-start .ensures i) (a .m .head + reach)
 
 pub not-covered-spec : {M : Type 1} → statement M
 not-covered-spec =
     tie.close
-    (tie.spec
-    segment-at-requires
-    last-start-requires
-    cast-length
-    sub-rear
-    cast-result
-    cast-result-2
-    add-result
-    returns)
+    (tie.spec (λ c κs. search needs) (λ c κs. search needs) (λ c. search needs) (λ c. search needs) (λ c. search needs) (λ c. search needs)
+    (λ c. search needs) returns)

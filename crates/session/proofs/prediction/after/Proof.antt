@@ -5,31 +5,25 @@ use borrow.Author.Needs.{needs}
 use Rattle.session.proofs.prediction.after.Statement.{statement}
 use Rattle.session.proofs.prediction.after.Tie as tie
 
-updated-requires : tie.Need-updated-requires
-updated-requires c κs = search needs
-
-listed-requires : tie.Need-listed-requires
-listed-requires c κs = search needs
+abbrev start : tie.After-updated → tie.Start
+start c = c .before .before .before .before .before
 
 predicted-requires : tie.Need-predicted-requires
-predicted-requires c κs = rw (c .before .before .before .updated .ensures) (predictable _ _ _ (c .before .before .before .before .before .before .before .before .pre))
-
-cause-requires : tie.Need-cause-requires
-cause-requires c κs = search needs
-
-standing-requires : tie.Need-standing-requires
-standing-requires c κs = search needs
-
-state-number-requires : tie.Need-state-number-requires
-state-number-requires c κs = search needs
+predicted-requires c κs =
+    let updated = c .before .before .before in
+    let a = start updated .args in
+    rw (updated .updated .ensures) (predictable (a .x) (a .m) (now (a .p)) (start updated .pre))
 
 returns : tie.Need-returns
 returns c =
-    let a = c .before .before .before .before .before .before .before .before .before .before .before .before .before .args in
+    let found = c .before .before .before .before in
+    let listed = found .before .before .before in
+    let updated = listed .before in
+    let a = start updated .args in
     after-is (a .x) (a .m) (now (a .p)) (now (a .t)) _ _ _ _ _ _
-    (c .before .before .before .before .before .before .before .before .updated .ensures)
-    (c .before .before .before .before .before .before .before .listed .ensures)
-    (c .before .before .before .before .predicted .ensures)
+    (updated .updated .ensures)
+    (listed .listed .ensures)
+    (found .predicted .ensures)
     (c .before .before .cause .ensures)
     (c .before .standing .ensures)
     (c .state-number .ensures)
@@ -37,11 +31,5 @@ returns c =
 pub after-spec : {M : Type 1} → statement M
 after-spec =
     tie.close
-    (tie.spec
-    updated-requires
-    listed-requires
-    predicted-requires
-    cause-requires
-    standing-requires
-    state-number-requires
+    (tie.spec (λ c κs. search needs) (λ c κs. search needs) predicted-requires (λ c κs. search needs) (λ c κs. search needs) (λ c κs. search needs)
     returns)

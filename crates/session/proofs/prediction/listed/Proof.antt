@@ -26,27 +26,6 @@ abbrev μ-loop : tie.MeasureT-loop
 loop-holds : tie.Need-loop-holds Inv-loop μ-loop
 loop-holds c = (omega arith, refl, refl)
 
-target-at-requires : tie.Need-target-at-requires Inv-loop μ-loop
-target-at-requires c κs = search needs
-
-mul-locations : tie.Need-mul-locations Inv-loop μ-loop
-mul-locations c = omega arith
-
-array-write-locations : tie.Need-array-write-locations Inv-loop μ-loop
-array-write-locations c = omega arith
-
-mul-speeds : tie.Need-mul-speeds Inv-loop μ-loop
-mul-speeds c = omega arith
-
-array-write-speeds : tie.Need-array-write-speeds Inv-loop μ-loop
-array-write-speeds c = omega arith
-
-add-k : tie.Need-add-k Inv-loop μ-loop
-add-k c = omega arith
-
-loop-less : tie.Need-loop-less Inv-loop μ-loop
-loop-less c = omega arith
-
 loop-again : tie.Need-loop-again Inv-loop μ-loop
 loop-again c =
     let l = c .before .before .loop in
@@ -68,16 +47,5 @@ returns c =
 pub listed-spec : {M : Type 1} → statement M
 listed-spec =
     tie.close
-    (tie.spec
-    Inv-loop
-    μ-loop
-    loop-holds
-    target-at-requires
-    mul-locations
-    array-write-locations
-    mul-speeds
-    array-write-speeds
-    add-k
-    loop-less
-    loop-again
-    returns)
+    (tie.spec Inv-loop μ-loop loop-holds (λ c κs. search needs) (λ c. omega arith) (λ c. omega arith) (λ c. omega arith) (λ c. omega arith)
+    (λ c. omega arith) (λ c. omega arith) loop-again returns)

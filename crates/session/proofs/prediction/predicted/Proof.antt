@@ -6,16 +6,10 @@ use Rattle.walk.specs.declared.Curve.{Curve}
 use Rattle.walk.specs.Curve.{forceAt}
 use Rattle.walk.specs.Step.{groundOf}
 use Rattle.walk.specs.Walk.{predictOf}
-use Rattle.session.specs.Sample.{predictionOf}
+use Rattle.judge.specs.Approach.{predictionOf}
 use Rattle.session.proofs.Accepted.{walkable}
 use Rattle.session.proofs.prediction.predicted.Statement.{statement}
 use Rattle.session.proofs.prediction.predicted.Tie as tie
-
-penalty-requires : tie.Need-penalty-requires
-penalty-requires c κs = search needs
-
-laid-requires : tie.Need-laid-requires
-laid-requires c κs = search needs
 
 predict-requires : tie.Need-predict-requires
 predict-requires c κs = rw (c .before .penalty .ensures, c .laid .ensures) (walkable _ _ _ _ (c .before .before .before .pre))
@@ -29,4 +23,4 @@ returns c =
     (c .before .before .penalty .ensures) (c .before .laid .ensures)
 
 pub predicted-spec : {M : Type 1} → statement M
-predicted-spec = tie.close (tie.spec penalty-requires laid-requires predict-requires returns)
+predicted-spec = tie.close (tie.spec (λ c κs. search needs) (λ c κs. search needs) predict-requires returns)

@@ -55,8 +55,8 @@ module _ (c : tie.Start) where
   sum-fits : SFits w64 (before +ℤ pos feet *ℤ grade)
   sum-fits = fits-abs (omega (arith, c .pre .grade, term-most, abs-add before (pos feet *ℤ grade)))
 
-  curve-most : feet * c .args .curvature ≤ 2 ^ 48
-  curve-most =
+  curvature-most : feet * c .args .curvature ≤ 2 ^ 48
+  curvature-most =
       let l : feet ≤ 2 ^ 32 = omega arith in
       let m : c .args .curvature ≤ 2 ^ 16 = omega arith in
       omega (arith, mul-le-mul l m)
@@ -64,9 +64,9 @@ module _ (c : tie.Start) where
   plus : (r : Sums) → r ≡ plusOf (c .args .self) feet grade (c .args .curvature) → Plus (c .args .self) feet grade (c .args .curvature) r
   plus r e = record {
     sum = e;
-    within = λ n h. record {
+    sized = λ n h. record {
       grade = rw e (omega (arith, h .grade, term-most, abs-add before (pos feet *ℤ grade)));
-      curvature = rw e (omega (arith, h .curvature, curve-most));
+      curvature = rw e (omega (arith, h .curvature, curvature-most));
     };
   }
 
@@ -83,10 +83,10 @@ add-t8 : tie.Need-add-t8
 add-t8 c = let s = c .before .before in op-fits _+ℤ_ (before-holds s) (term-holds s) (sum-fits s)
 
 mul-t11 : tie.Need-mul-t11
-mul-t11 c = omega (arith, curve-most (c .before .before))
+mul-t11 c = omega (arith, curvature-most (c .before .before))
 
 add-t12 : tie.Need-add-t12
-add-t12 c = let s = c .before .before .before in omega (arith, s .pre .curvature, curve-most s)
+add-t12 c = let s = c .before .before .before in omega (arith, s .pre .curvature, curvature-most s)
 
 returns : tie.Need-returns
 returns c =

@@ -7,7 +7,7 @@ use Rattle.walk.proofs.Curve.drop_at.Statement.{statement}
 use Rattle.walk.proofs.Curve.drop_at.Tie as tie
 
 mul-lesser : tie.Need-mul-lesser
-mul-lesser c = let s = c .before in omega (arith, mul-le-mul (s .pre .curve .num) (s .pre .clock))
+mul-lesser c = let s = c .before in omega (arith, mul-le-mul (s .pre .curve .slope) (s .pre .clock))
 
 div-lesser : tie.Need-div-lesser
 div-lesser c = search needs

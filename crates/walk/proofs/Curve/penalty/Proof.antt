@@ -4,6 +4,9 @@ use borrow.Author.Needs.{needs}
 use Rattle.walk.proofs.Curve.penalty.Statement.{statement}
 use Rattle.walk.proofs.Curve.penalty.Tie as tie
 
+equalization-service-requires : tie.Need-equalization-service-requires
+equalization-service-requires c κs = search needs
+
 cast-t6 : tie.Need-cast-t6
 cast-t6 c = search needs
 
@@ -16,23 +19,17 @@ cast-t8 c = search needs
 mul-t9 : tie.Need-mul-t9
 mul-t9 c = search needs
 
-mul-above : tie.Need-mul-above
-mul-above c = search needs
-
-mul-above-2 : tie.Need-mul-above-2
-mul-above-2 c = search needs
-
-add-above : tie.Need-add-above
-add-above c = search needs
+cast-above : tie.Need-cast-above
+cast-above c = search needs
 
 above-requires : tie.Need-above-requires
 above-requires c κs = search needs
 
 returns : tie.Need-returns
 unfolding penaltyCurve
-returns c = rw (c .above .ensures)
+returns c = rw (c .above .ensures, c .before .before .before .equalization-service .ensures)
 
 pub penalty-spec : {M : Type 1} → statement M
 penalty-spec =
     tie.close
-    (tie.spec cast-t6 mul-t7 cast-t8 mul-t9 mul-above mul-above-2 add-above above-requires returns)
+    (tie.spec equalization-service-requires cast-t6 mul-t7 cast-t8 mul-t9 cast-above above-requires returns)

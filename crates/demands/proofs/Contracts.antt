@@ -1,0 +1,194 @@
+-- The contracts of the Rattle program and of the C library say what is defined, and how each holds a session. Assumes nothing.
+use mathlib.Core.Path.{_≡_, refl, ap, subst, sym, _∙_, ap₂}
+use mathlib.Core.Bool.{true, Bool, false}
+use mathlib.Core.List.{List, [], _++_}
+use Prim.Native.Nat.{ℕ, _≤_}
+use native.Mathlib.Omega.{arith}
+use denote.Ref.{RefT, now}
+use lib.ListN.{length, drop, length-append, length-drop}
+use lib.Seq.{take-at, drop-at}
+use borrow.Author.Tests.{le-ltb}
+use Rattle.bits.proofs.Bit.{bit-fits}
+use Rattle.bits.proofs.Bytes.{bytes-take, bytes-drop}
+use Rattle.refusal.specs.Steps.{kept}
+use Rattle.refusal.specs.declared.Refusal.{Refusal}
+use Rattle.refusal.specs.declared.Verdict.{Verdict}
+use Rattle.refusal.specs.declared.Verdict.the-variants.{Accepted, Refused}
+use Rattle.refusal.specs.Lowest.{lowest}
+use Rattle.refusal.specs.Number.{numberOfVerdict, told}
+use Rattle.refusal.specs.Written.{noRoom, written}
+use Rattle.refusal.specs.declared.Refusal.the-variants.{NoSession, NoRoom}
+use Rattle.refusal.proofs.Order.{last-passed, append-passed, append-given}
+use Rattle.refusal.proofs.Numbers.{verdict-one, one-first}
+use Rattle.seal.proofs.Seals.{append-bytes}
+use Rattle.consist.specs.Consist.{consistIn, readRules, readConsist, answer}
+use Rattle.brake.proofs.StateNumbers.{number-most}
+use Rattle.session.specs.declared.Session.{Session}
+use Rattle.session.specs.declared.Answer.{Answer}
+use Rattle.session.specs.Session.{isOpen, noneOpen, sessionTold, callTold}
+use Rattle.session.specs.Open.{openOf, openedWith, openedBy}
+use Rattle.session.specs.Sample.{sampleCall}
+use Rattle.session.specs.Laws.{Lent}
+use Rattle.session.proofs.Admitted.{opened}
+use Rattle.session.proofs.Told.{session-one, answer-one, call-one}
+use Rattle.held.specs.Held as held
+use Rattle.held.specs.Held.{size, bytesOf, sessionIn, noSession, readSession}
+use Rattle.held.specs.Damage as damage
+use Rattle.held.proofs.Damage as held-damage
+use Rattle.held.proofs.RoundTrip.{size-of, bytes-of, bytes-read}
+use Rattle.mount.specs.Mount.{front, openRules, openBytes, Sampled, sampledBy, sampleBytes}
+use Rattle.demands.specs.Machine.{Call, opening, sampling, Lends, Reply, Machine, call, ours, Unopened, carry, Does, Slice}
+use Rattle.demands.specs.Program.{FitsWords, byValue, ourProgram}
+use Rattle.demands.specs.Program as program
+use Rattle.demands.specs.Library.{inBytes, ourLibrary, DamageSeen}
+use Rattle.demands.specs.Library as library
+use Rattle.demands.proofs.Carried.{Lawful, refused-same, none-refuses}
+
+-- ---- the Rattle program: sessions by value
+
+-- an open session fits its words
+open-fits : (x : Session) → isOpen x ≡ true → FitsWords x
+open-fits x h =
+    let o = opened x h in
+    let k = o .brake in
+    omega (arith, number-most (x .brake .state), bit-fits (x .brake .sampled), o .cause, k .a, k .b, k .equalization, k .fall, k .hold, k .front, k .rear, k .time, o .consist .ranged)
+
+pub value-lawful : Lawful byValue
+value-lawful = record { fits = λ z x f o. open-fits x o; reads = λ z x o. refl; again = λ z x y. refl; apart = λ v w e. e }
+
+-- a slice with these bytes; where it lies does not matter
+unfoldable pub lent : List ℕ → RefT (List ℕ)
+lent bytes = record { ptr = (0, 0); name = 0; now = bytes }
+
+pub program-meets : (x : Session) → Unopened byValue x → program.Meets (ourProgram x)
+program-meets x u = record {
+  none = λ κs a y. ap sessionTold (u .1);
+  opens = λ κs a y f s. refl;
+  samples = λ κs a y f s h.
+      let r = ours .samples (a .0) (program.lentTo κs a) in
+      ap (λ (l : List ℕ). callTold (record { session = r .state; verdict = r .told }, l)) h;
+}
+
+settled : (v : Verdict) (old new : Session) → ((r : Refusal) → v ≡ Refused r → new ≡ old) → new ≡ kept v new old
+settled Accepted old new same = refl
+settled (Refused r) old new same = same r refl
+
+module _ (m : Machine Session Verdict) (met : program.Meets m) where
+  pub program-begins : Unopened byValue (m .none)
+  program-begins =
+      let fits : FitsWords noneOpen = omega arith in
+      let e = session-one (m .none) noneOpen (met .none tt tt tt) in
+      (subst FitsWords (sym e) fits, e)
+
+  program-same : (x : Session) → FitsWords x → (k : Call) → Lends k → call m x k ≡ call ours x k
+  unfolding lent
+  program-same x f (opening s) b =
+      ap {B = Reply Session Verdict} (λ (a : Answer). record { told = a .verdict; state = a .session; out = [] })
+      (answer-one _ (openOf x s) (met .opens ([], tt) (x, (lent s, tt)) (x, (lent s, tt)) f b))
+  program-same x f (sampling l) b =
+      let r = m .samples x l in
+      ap {B = Reply Session Verdict} (λ (a : Answer × List ℕ). record { told = a .0 .verdict; state = a .0 .session; out = a .1 })
+      (call-one _ (sampleCall x (l .sample) (l .profile) (l .targets) (l .out))
+      (met .samples ([], ([], ([], ([], tt)))) (x, (lent (l .sample), (lent (l .profile), (lent (l .targets), (lent (l .out), tt)))))
+      (x, (lent (l .sample), (lent (l .profile), (lent (l .targets), (lent (r .out), tt))))) f b refl))
+
+  pub program-does : Does byValue m
+  program-does z x o k b =
+      let r = call ours z k in
+      program-same z (o .0) k b
+      ∙ ap {B = Reply Session Verdict} (λ (y : Session). record { told = r .told; state = y; out = r .out }) (settled (r .told) z (r .state) (refused-same z k))
+      ∙ ap (λ (y : Session). carry byValue z (call ours y k)) (o .1)
+
+-- ---- the C library: sessions in bytes
+
+pub bytes-lawful : Lawful inBytes
+bytes-lawful = record {
+  fits = λ z x f o. (
+    (append-bytes (bytesOf x) (drop size z) (bytes-of x) (bytes-drop size z (f .0 .0)), simp (length-append, length-drop) (omega (arith, size-of x, f .0 .1, f .1))),
+    simp length-append (omega (arith, size-of x)),
+  );
+  reads = λ z x o.
+      ap (λ (s : List ℕ). readSession s .1) (take-at (bytesOf x) (drop size z) size (size-of x)) ∙ ap (λ (a : Verdict × Session). a .1) (bytes-read x o);
+  again = λ z x y. ap (λ (rest : List ℕ). bytesOf y ++ rest) (drop-at (bytesOf x) (drop size z) size (size-of x));
+  apart = verdict-one;
+}
+
+pub library-meets : (z : List ℕ) → Unopened inBytes z → library.Meets (ourLibrary z)
+library-meets z u = record {
+  none = u;
+  opens = λ κs a x f s h. ap {B = ℕ × List ℕ} (λ (b : List ℕ). (openBytes (now (a .1 .0)) (now (a .0)) .0, b)) h;
+  samples = λ κs a x f s h g. ap₂ {C = Sampled} (λ (b out : List ℕ). (ourLibrary z .samples (now (a .0)) (library.lentTo κs a) .told, b, out)) h g;
+}
+
+module _ (m : Machine (List ℕ) ℕ) (met : library.Meets m) where
+  -- it replies as ours, however short the session's bytes
+  library-same : (z : List ℕ) → Slice z → (k : Call) → Lends k → call m z k ≡ call (ourLibrary z) z k
+  unfolding lent
+  library-same z f (opening s) b =
+      ap {B = Reply (List ℕ) ℕ} (λ (r : ℕ × List ℕ). record { told = r .0; state = r .1; out = [] })
+      (met .opens ([], ([], tt)) (lent z, (lent s, tt)) (lent (m .opens z s .1), (lent s, tt)) f b refl)
+  library-same z f (sampling l) b =
+      let r = m .samples z l in
+      ap {B = Reply (List ℕ) ℕ} (λ (r : Sampled). record { told = r .0; state = r .1; out = r .2 })
+      (met .samples ([], ([], ([], ([], ([], tt))))) (lent z, (lent (l .sample), (lent (l .profile), (lent (l .targets), (lent (l .out), tt)))))
+      (lent (r .state), (lent (l .sample), (lent (l .profile), (lent (l .targets), (lent (r .out), tt))))) f b refl refl)
+
+module _ (z : List ℕ) where
+  -- a verdict leaves in the bytes what it does where the session is put in
+  left : (v : Verdict) (x : Session) → written v (bytesOf x) z .1 ≡ kept v (inBytes .put z x) z
+  left Accepted x = ap (λ (n : ℕ). bytesOf x ++ drop n z) (size-of x)
+  left (Refused r) x = refl
+
+  -- with room for the record, an opening is refused as its consist is
+  open-verdict : size ≤ length z → (s : List ℕ) (v : Verdict) → lowest (readRules s) ≡ v → lowest (openRules s z) ≡ v
+  unfolding noRoom
+  open-verdict room s Accepted e = append-passed (readRules s) _ e ∙ last-passed _ NoRoom (le-ltb (length z) size room)
+  open-verdict room s (Refused r) e = append-given (readRules s) _ r tt e
+
+  opens-so : (x : Session) (v : Verdict) (s : List ℕ) →
+      let r = written v (bytesOf (openedWith (consistIn s))) z in
+      _≡_ {A = Reply (List ℕ) ℕ} (record { told = numberOfVerdict (r .0); state = r .1; out = [] })
+      (record { told = numberOfVerdict v; state = kept v (inBytes .put z (openedBy x (answer v (consistIn s)) .session)) z; out = [] })
+  opens-so x Accepted s = ap (λ (b : List ℕ). record { told = 0; state = b; out = [] }) (left Accepted (openedWith (consistIn s)))
+  opens-so x (Refused r) s = refl
+
+  -- what a sample call leaves, by what the record at the front is read as
+  module _ (l : Lent) where
+    abbrev by-read : Verdict × Session → Reply (List ℕ) ℕ
+    by-read a =
+        let r = sampledBy (a .0) (a .1) z (l .sample) (l .profile) (l .targets) (l .out) in
+        record { told = r .0; state = r .1; out = r .2 }
+
+    -- 1: no open session's record stands there
+    none-held : noSession (front z) ≡ true → call (ourLibrary z) z (sampling l) ≡ record { told = 1; state = z; out = l .out }
+    unfolding sampleBytes readSession
+    none-held n = ap (λ (v : Verdict). by-read (held.answer v (sessionIn (front z)))) (one-first (noSession (front z)) [] n)
+
+    samples-so : (n : Bool) → noSession (front z) ≡ n → call (ourLibrary z) z (sampling l) ≡ carry inBytes z (call ours (inBytes .session z) (sampling l))
+    unfolding sampleBytes readSession
+    samples-so true n =
+        let none = ap (λ (v : Verdict). kept v (sessionIn (front z)) noneOpen) (one-first (noSession (front z)) [] n) in
+        none-held n ∙ sym (ap (carry inBytes z) (ap (λ (x : Session). call ours x (sampling l)) none ∙ none-refuses l))
+    samples-so false n =
+        let r = call ours (inBytes .session z) (sampling l) in
+        ap (λ (v : Verdict). by-read (v, inBytes .session z)) (last-passed (noSession (front z)) NoSession n)
+        ∙ ap {B = Reply (List ℕ) ℕ} (λ (b : List ℕ). record { told = numberOfVerdict (r .told); state = b; out = r .out }) (left (r .told) (r .state))
+
+  ours-does : size ≤ length z → (k : Call) → call (ourLibrary z) z k ≡ carry inBytes z (call ours (inBytes .session z) k)
+  unfolding openBytes openOf readConsist
+  ours-does room (opening s) =
+      let v = lowest (readRules s) in
+      ap {B = Reply (List ℕ) ℕ} (λ (v : Verdict). let r = written v (bytesOf (openedWith (consistIn s))) z in record { told = numberOfVerdict (r .0); state = r .1; out = [] })
+      (open-verdict room s v refl)
+      ∙ opens-so (inBytes .session z) v s
+  ours-does room (sampling l) = samples-so l (noSession (front z)) refl
+
+pub library-does : (m : Machine (List ℕ) ℕ) → library.Meets m → Does inBytes m
+library-does m met z x o k b = library-same m met z (o .0 .0) k b ∙ ours-does z (o .0 .1) k ∙ ap (λ (y : Session). carry inBytes z (call ours y k)) (o .1)
+
+-- ---- a damaged record, from what the check word tells
+
+pub damage-seen : DamageSeen
+unfolding DamageSeen damage.DamageSeen
+damage-seen m met x z l o b lent d =
+    library-same m met z b (sampling l) lent ∙ none-held z l (held-damage.damage-seen x (front z) o (bytes-take size z (b .0)) (d .0) (d .1))

@@ -1,0 +1,114 @@
+-- The sessions of the calls' definitions hold what the paper says of the history, call by call. Assumes nothing.
+use mathlib.Core.Path.{_≡_, refl, sym, ap, subst, _∙_}
+use mathlib.Core.Bool.{true, not, cond}
+use mathlib.Core.List.{List, [], _∷_, _++_}
+use Prim.Native.Nat.{ℕ, zero, suc, _<_}
+use native.Mathlib.Omega.{arith}
+use lib.Dec.{eqb}
+use borrow.Author.Tests.{ne-eqb}
+use Rattle.refusal.specs.Lowest.{lowest}
+use Rattle.refusal.specs.Steps.{kept}
+use Rattle.refusal.specs.Written.{written}
+use Rattle.refusal.specs.declared.Verdict.{Verdict}
+use Rattle.refusal.specs.declared.Verdict.the-variants.{Accepted, Refused}
+use Rattle.refusal.proofs.Order.{passed}
+use Rattle.consist.specs.declared.Consist.{Consist}
+use Rattle.consist.specs.Consist.{consistIn, readRules, readConsist, answer}
+use Rattle.sample.specs.declared.Sample.{Sample}
+use Rattle.decision.specs.Decision.{bytesOf}
+use Rattle.brake.specs.Rules.{updateOf}
+use Rattle.session.specs.declared.Session.{Session}
+use Rattle.session.specs.declared.Answer.{Answer}
+use Rattle.session.specs.Session.{isOpen}
+use Rattle.session.specs.Open.{openOf, openedBy}
+use Rattle.session.specs.Sample.{sampleIn, wrongTime, causeAfter, decisionOf, rules}
+use Rattle.session.specs.Laws.{Lent}
+use Rattle.demands.specs.Machine.{Call, opening, sampling, Reply, call, ours}
+use Rattle.demands.specs.History.{brakes, callsIn, firstCall, causeIn, decisionAt, wrongTimeAfter, rulesAt, Standing, nothing, since, verdictAt, next, outAt, sessionAt}
+use Rattle.demands.specs.Demand2.{CauseStays}
+use Rattle.demands.proofs.Carried.{accepted-open, sampled, sampled-is, none-refuses}
+
+-- ---- the first call of a history
+
+pub cause-after : (before call : ℕ) → 0 < before → cond (eqb before 0) call before ≡ before
+cause-after before call h = let n : before ≡ 0 → ⊥ = λ e. omega arith in rw (ne-eqb before 0 n)
+
+-- a later call counts where there is none before it
+first-of-both : (ns : List ℕ) (n : ℕ) → firstCall (ns ++ n ∷ []) ≡ cond (eqb (firstCall ns) 0) n (firstCall ns)
+unfolding firstCall
+first-of-both [] zero = refl
+first-of-both [] (suc n) = cause-after (suc n) 0 (omega arith)
+first-of-both (zero ∷ ns) n = first-of-both ns n
+first-of-both (suc k ∷ ns) n = let some : suc k ≡ 0 → ⊥ = λ e. omega arith in rw (ne-eqb (suc k) 0 some) (sym (cause-after (suc k) n (omega arith)))
+
+pub cause-stays : CauseStays
+unfolding CauseStays callsIn
+cause-stays c h [] s = refl
+cause-stays c h (l ∷ later) s =
+    let e = cause-stays c h later s in
+    first-of-both (callsIn c (later ++ h)) _ ∙ cause-after (causeIn c (later ++ h)) _ (omega arith) ∙ e
+
+-- ---- one call of the definition
+
+-- a session that stands is open
+abbrev pub Open : Standing → Type 0
+Open nothing = Unit {0}
+Open (since c h) = isOpen (sessionAt (since c h)) ≡ true
+
+opened-is : (st : Standing) (s : List ℕ) (v : Verdict) →
+    openedBy (sessionAt st) (answer v (consistIn s)) ≡ record { session = sessionAt (kept v (since (consistIn s) []) st); verdict = v }
+unfolding brakes callsIn firstCall
+opened-is st s Accepted = refl
+opened-is st s (Refused r) = refl
+
+time-is : (c : Consist) (h : List Lent) (m : Sample) → wrongTime (sessionAt (since c h)) m ≡ wrongTimeAfter h m
+unfolding wrongTime brakes updateOf
+time-is c [] m = refl
+time-is c (l ∷ h) m = refl
+
+module _ (c : Consist) (h : List Lent) (l : Lent) where
+  abbrev x : Session
+  x = sessionAt (since c h)
+
+  abbrev m : Sample
+  m = sampleIn (l .sample)
+
+  cause-is : causeAfter x m (l .profile) (l .targets) ≡ causeIn c (l ∷ h)
+  unfolding brakes callsIn causeAfter
+  cause-is = sym (first-of-both (callsIn c h) _)
+
+  pub decision-is : decisionOf x m (l .profile) (l .targets) ≡ decisionAt c h l
+  unfolding brakes
+  decision-is = rw cause-is
+
+  verdict-is : isOpen x ≡ true → lowest (rules x (l .sample) (l .profile) (l .targets) (l .out)) ≡ lowest (rulesAt c h l)
+  unfolding brakes
+  verdict-is o = passed _ _ _ (ap not o) ∙ rw (time-is c h m)
+
+  answer-is : (v : Verdict) →
+      sampled x l v ≡ record { told = v; state = sessionAt (kept v (since c (l ∷ h)) (since c h)); out = written v (bytesOf (decisionAt c h l)) (l .out) .1 }
+  unfolding brakes
+  answer-is Accepted = rw cause-is
+  answer-is (Refused r) = refl
+
+pub reply-is : (st : Standing) → Open st → (k : Call) → call ours (sessionAt st) k ≡ record { told = verdictAt st k; state = sessionAt (next st k); out = outAt st k }
+unfolding openOf readConsist
+reply-is st o (opening s) =
+    ap {B = Reply Session Verdict} (λ (a : Answer). record { told = a .verdict; state = a .session; out = [] }) (opened-is st s (lowest (readRules s)))
+reply-is nothing o (sampling l) = none-refuses l
+reply-is (since c h) o (sampling l) =
+    sampled-is (sessionAt (since c h)) l (lowest (rulesAt c h l)) (verdict-is c h l o) ∙ answer-is c h l (lowest (rulesAt c h l))
+
+-- what stands after a call is open
+settles : (v : Verdict) (st : Standing) (c : Consist) (h : List Lent) → Open st → (v ≡ Accepted → isOpen (sessionAt (kept v (since c h) st)) ≡ true)
+    → Open (kept v (since c h) st)
+settles Accepted st c h o f = f refl
+settles (Refused r) st c h o f = o
+
+stays : (st : Standing) → Open st → (k : Call) → verdictAt st k ≡ Accepted → isOpen (sessionAt (next st k)) ≡ true
+stays st o k = subst (λ (r : Reply Session Verdict). r .told ≡ Accepted → isOpen (r .state) ≡ true) (reply-is st o k) (accepted-open (sessionAt st) k)
+
+pub next-open : (st : Standing) → Open st → (k : Call) → Open (next st k)
+next-open st o (opening s) = settles (lowest (readRules s)) st (consistIn s) [] o (stays st o (opening s))
+next-open nothing o (sampling l) = tt
+next-open (since c h) o (sampling l) = settles (lowest (rulesAt c h l)) (since c h) c (l ∷ h) o (stays (since c h) o (sampling l))

@@ -1,0 +1,15 @@
+-- The case of document 01: its bytes, as crate feed has them, and its session. Definitions only.
+use mathlib.Core.List.{List, [], _∷_}
+use Prim.Native.Nat.{ℕ}
+use Rattle.session.specs.declared.Session.{Session}
+use Rattle.session.specs.Session.{noneOpen}
+use Rattle.session.specs.Open.{openOf}
+use Rattle.session.specs.Sample.{sampleCall}
+pub use Rattle.feed.specs.Case.{consist, profile, targets, sample}
+
+abbrev pub out : List ℕ
+out = 0 ∷ 0 ∷ 0 ∷ 0 ∷ 0 ∷ 0 ∷ 0 ∷ 0 ∷ []
+
+-- after the sample 0, 5,000, 0.0
+abbrev pub standing : Session
+standing = sampleCall (openOf noneOpen consist .session) (sample 0 0 0) profile targets out .0 .session

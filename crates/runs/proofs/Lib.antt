@@ -1,0 +1,6 @@
+-- The code's own runs, from each call's theorem.
+pub mod LentAnswers
+pub mod LentBytes
+pub mod SessionValue
+pub mod Runs
+pub mod CodeMeets
