@@ -1,6 +1,8 @@
 -- The code's own runs, from each call's theorem.
 pub mod LentAnswers
 pub mod LentBytes
+pub mod Called
 pub mod SessionValue
 pub mod Runs
+pub mod Loaded
 pub mod CodeMeets

@@ -54,7 +54,8 @@ use Rattle.mount.proofs.buongilach_sample.Reads as buongilach-sample-reads
 use Rattle.runs.specs.Runs.{Buffer, size, passed, with, Short, lie, Answers, Runs}
 use Rattle.runs.proofs.SessionValue.{session-fits}
 use Rattle.runs.proofs.LentAnswers.{Defined, AnswersLent, answers-lent}
-use Rattle.runs.proofs.LentBytes.{Passing, valued, shared, changed, called}
+use Rattle.runs.proofs.LentBytes.{Passing, valued, shared, changed}
+use Rattle.runs.proofs.Called.{called}
 
 -- ---- what each call is to answer where its arguments are lent, and that its code answers so
 abbrev noneSays : Defined session-none.ended

@@ -5,7 +5,7 @@ use native.Mathlib.Nat.{mod-lt}
 use lib.Pow.{pow-pos}
 use denote.Ref.{now}
 use Rattle.bits.specs.Places.{fieldAt}
-use Rattle.bits.proofs.Places.{one-shl, too-wide, past-end, read-place}
+use Rattle.bits.proofs.OneField.{one-shl, too-wide, past-end, read-place}
 use borrow.Author.Needs.{needs}
 use Rattle.bits.proofs.field.Statement.{statement}
 use Rattle.bits.proofs.field.Tie as tie

@@ -3,7 +3,7 @@ use mathlib.Core.Path.{refl}
 use native.Mathlib.Omega.{arith}
 use denote.Ref.{now}
 use Rattle.bits.specs.Places.{putAt}
-use Rattle.bits.proofs.Places.{too-wide, past-end, put-place}
+use Rattle.bits.proofs.OneField.{too-wide, past-end, put-place}
 use borrow.Author.Needs.{needs}
 use Rattle.bits.proofs.put_field.Statement.{statement}
 use Rattle.bits.proofs.put_field.Tie as tie

@@ -3,7 +3,7 @@ use mathlib.Core.Path.{sym, ap₂, subst}
 use Prim.Native.Nat.{ℕ, _+_, _<_, _^_}
 use native.Mathlib.Omega.{arith}
 use lib.Pow.{pow-pos}
-use Rattle.bits.proofs.Places.{one-shl, lower-part, lower-fits, upper-part, one-word-fits}
+use Rattle.bits.proofs.OneField.{one-shl, lower-part, lower-fits, upper-part, one-word-fits}
 use borrow.Author.Needs.{needs}
 use Rattle.bits.proofs.replace.Statement.{statement}
 use Rattle.bits.proofs.replace.Tie as tie
