@@ -3,7 +3,7 @@
  *
  *     bench FEED time ROUNDS     checks that all three answer alike, then times
  *                                the archive and plain C in turn, round by round
- *     bench FEED mount TIMES     runs the feed so often with one of them, for an
+ *     bench FEED library TIMES     runs the feed so often with one of them, for an
  *     bench FEED plain TIMES     instruction counter
  *
  * `time` prints a line: samples, refused ones, walks without a stop, then the
@@ -78,7 +78,7 @@ static parts read_feed(const char *name)
 }
 
 /* The archive, on the whole feed. */
-static void run_mount(const parts *feed, int *answers, decision *decisions)
+static void run_library(const parts *feed, int *answers, decision *decisions)
 {
     uint8_t session[BUONGILACH_SESSION_BYTES] = { 0 };
     if (buongilach_open(session, sizeof session, feed->consist, BUONGILACH_CONSIST_BYTES) != 0)
@@ -137,18 +137,18 @@ static void must_be_alike(const parts *feed, record x, record y)
 /* All three alike, byte for byte; a refused sample's decision is left zero by all. */
 static tally check(const parts *feed)
 {
-    record mount = room(feed), plain = room(feed), second = room(feed);
-    run_mount(feed, mount.answers, mount.decisions);
+    record library = room(feed), plain = room(feed), second = room(feed);
+    run_library(feed, library.answers, library.decisions);
     run_plain(feed, plain.answers, plain.decisions);
     run_second(feed, second.answers, second.decisions);
-    must_be_alike(feed, mount, second);
+    must_be_alike(feed, library, second);
     must_be_alike(feed, plain, second);
 
     tally seen = { 0, 0 };
     for (size_t i = 0; i < feed->count; i++) {
-        seen.refused += mount.answers[i] != 0;
-        seen.without_stop += mount.answers[i] == 0
-            && second_bits(mount.decisions[i].bytes, 40, 24) == BUONGILACH_NO_STOP;
+        seen.refused += library.answers[i] != 0;
+        seen.without_stop += library.answers[i] == 0
+            && second_bits(library.decisions[i].bytes, 40, 24) == BUONGILACH_NO_STOP;
     }
     return seen;
 }
@@ -183,35 +183,35 @@ static double median(double *values, int count)
 
 static void print_times(const parts *feed, int rounds)
 {
-    static double mount[MOST_ROUNDS], plain[MOST_ROUNDS], ratio[MOST_ROUNDS];
+    static double library[MOST_ROUNDS], plain[MOST_ROUNDS], ratio[MOST_ROUNDS];
     tally seen = check(feed);
     record into = room(feed);
     int times = 1;
-    while (time_of(run_mount, feed, into, times) < ROUND_NS)
+    while (time_of(run_library, feed, into, times) < ROUND_NS)
         times *= 2;
     for (int i = 0; i < rounds; i++) {
-        mount[i] = time_of(run_mount, feed, into, times);
+        library[i] = time_of(run_library, feed, into, times);
         plain[i] = time_of(run_plain, feed, into, times);
-        ratio[i] = mount[i] / plain[i];
+        ratio[i] = library[i] / plain[i];
     }
     double samples = (double)times * (double)feed->count;
     printf("%zu %d %d %.1f %.1f %.4f\n", feed->count, seen.refused, seen.without_stop,
-           median(mount, rounds) / samples, median(plain, rounds) / samples,
+           median(library, rounds) / samples, median(plain, rounds) / samples,
            median(ratio, rounds));
 }
 
 int main(int count, char **words)
 {
     if (count != 4)
-        die("bench FEED time|mount|plain NUMBER");
+        die("bench FEED time|library|plain NUMBER");
     parts feed = read_feed(words[1]);
     int number = atoi(words[3]);
     if (number < 1 || number > MOST_ROUNDS)
         die("the number is from 1 to 1000");
     if (strcmp(words[2], "time") == 0)
         print_times(&feed, number);
-    else if (strcmp(words[2], "mount") == 0)
-        time_of(run_mount, &feed, room(&feed), number);
+    else if (strcmp(words[2], "library") == 0)
+        time_of(run_library, &feed, room(&feed), number);
     else
         time_of(run_plain, &feed, room(&feed), number);
     return 0;

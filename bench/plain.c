@@ -1,7 +1,7 @@
 /*
  * plain.c - the rules of document 01 in plain C, as fast as the direct way is:
  * one walk finds the stop and every target's location, numbers are 64 bits wide.
- * second/second.c says each rule's phrase; here they stand without it.
+ * second/ says each rule's phrase; here they stand without it.
  */
 #include "plain.h"
 

@@ -17,6 +17,9 @@ static uint32_t bits_of(float reading)
 
 int main(void)
 {
+    if (buongilach_version() != BUONGILACH_VERSION)
+        return 1; /* header and archive of two releases */
+
     uint8_t session[BUONGILACH_SESSION_BYTES];
     uint8_t consist[BUONGILACH_CONSIST_BYTES];
     uint8_t profile[2 * BUONGILACH_PROFILE_RECORD_BYTES];

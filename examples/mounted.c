@@ -1,8 +1,8 @@
 /*
- * mounted.c - the session program over the C library, as a customer would write it: a recorded feed on standard input, a line for
- * each sample on standard output. It prints what `enforce` prints.
+ * mounted.c - document 01's session program over the C library, as a customer would write it: a recorded feed on standard input,
+ * a line for each sample on standard output.
  *
- *     tools/cc-mounted target/mounted examples/mounted.c
+ *     gcc -std=c11 -Iinclude -o mounted examples/mounted.c lib/libbuongilach.a
  */
 #include "buongilach.h"
 

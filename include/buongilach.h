@@ -1,5 +1,6 @@
 /*
- * buongilach.h - the brake predictor, for C11 and C++. Link libmount.a (x86-64 Linux; docs/MOUNTING.md).
+ * buongilach.h - the brake predictor, for C11 and C++. Link libbuongilach.a (x86-64 Linux; docs/MOUNTING.md says how, and
+ * docs/RECORDS.md draws the records bit by bit).
  *
  * A session is opened with a consist and then given a sample at a time; each accepted sample is answered by a decision, which
  * says whether the penalty brake must go on. "01" is the document that gives the rules.
@@ -17,10 +18,13 @@
  *  - what a call writes overlaps nothing else that the same call is lent;
  *  - a length above 0 has no null pointer. With length 0 the pointer is not followed, and null will do;
  *  - while a call runs, nothing else writes what it was lent: no session is used by two threads at once. Calls on different
- *    sessions may run at the same time, as nothing is kept outside of what is lent.
- *  - the processor's MXCSR register is at its default: floating-point exceptions masked, denormals not taken as zero. (A link
- *    by GCC with -ffast-math or -Ofast changes that at the program's start.)
+ *    sessions may run at the same time, as nothing is kept outside of what is lent;
+ *  - floating-point exceptions are masked in the processor's MXCSR register, as they are by default. Its rounding mode, and
+ *    whether denormals are taken as zero, change no answer;
+ *  - the stack is aligned to 16 bytes at the call, as every compiler for x86-64 Linux does, and has 4,096 bytes left.
  * Any bytes and any lengths are allowed: no content makes a call undefined.
+ *
+ * What a call leaves behind, beside what it writes: MXCSR's exception flags, which stay set once a reading has set them.
  */
 #ifndef BUONGILACH_H
 #define BUONGILACH_H
@@ -32,6 +36,15 @@
 #ifdef __cplusplus
 extern "C" {
 #endif
+
+/* The version of this header, major * 1,000,000 + minor * 1,000 + patch. */
+#define BUONGILACH_VERSION_MAJOR 2
+#define BUONGILACH_VERSION_MINOR 1
+#define BUONGILACH_VERSION_PATCH 0
+#define BUONGILACH_VERSION (BUONGILACH_VERSION_MAJOR * 1000000 + BUONGILACH_VERSION_MINOR * 1000 + BUONGILACH_VERSION_PATCH)
+
+/* The version of the archive that is linked. Where it is not BUONGILACH_VERSION, header and archive are of two releases. */
+uint32_t buongilach_version(void);
 
 enum {
     BUONGILACH_SESSION_BYTES = 40,
@@ -53,7 +66,7 @@ enum {
 /* What a call answers. docs/MOUNTING.md says what each asks of the caller. */
 enum buongilach_refusal {
     BUONGILACH_ACCEPTED = 0,
-    BUONGILACH_NO_SESSION = 1,     /* a sample, and no open session's record stands at the front of the session's bytes */
+    BUONGILACH_NO_SESSION = 1,     /* a sample, and no open session's record, 40 bytes, stands at the front of its buffer */
     BUONGILACH_WRONG_LENGTH = 2,   /* a consist is not 16 bytes, a sample not 20, a decision that is read not 8 */
     BUONGILACH_WRONG_MARK = 3,     /* a wrong mark; a sample's spare bit set, or its rear lost with rear bits not zero */
     BUONGILACH_OUT_OF_RANGE = 4,   /* a field of a consist or a decision; a sample's time or head over 24 bits (writer) */
@@ -153,9 +166,10 @@ uint8_t buongilach_judge_targets(const uint8_t *targets, size_t targets_bytes);
 
 /*
  * Writes a sample to the first 20 bytes of `out`: time in seconds and head location (both below 2 to the 24th), then the bits of
- * a binary32 each: speed in mph (0 to 100), front and rear brake pipe pressure in psi (0 to 160). Any `present` but 0 says that
- * the rear is present. A rear that is lost has `present` 0 and `rear` 0.
- * Refuses 3 (lost, and `rear` not 0), 4, 8, 12.
+ * a binary32 each: speed in mph (0 to 100), front and rear brake pipe pressure in psi (0 to 160). `present` says whether there is
+ * a rear reading: 0 for none, and `rear` must then be 0; any other value, not only 1, for one, and `rear` is then judged. It is
+ * a whole uint32_t so that no wider value is cut to 0 on its way.
+ * Refuses 3 (`present` 0 and `rear` not 0), 4, 8, 12.
  */
 uint8_t buongilach_write_sample(uint32_t time, uint32_t head, uint32_t speed, uint32_t front, uint32_t present, uint32_t rear,
                                 uint8_t *out, size_t out_bytes);

@@ -56,6 +56,12 @@ static void lend_numbers(lent *buffer, part numbers, size_t size)
     lend(buffer, bytes);
 }
 
+void try_version(void)
+{
+    tried.calls++;
+    hold(buongilach_version() == BUONGILACH_VERSION, "version", "is not the header's");
+}
+
 unsigned try_open(part session_before, part consist_given, uint8_t *opened)
 {
     uint8_t due[BUONGILACH_SESSION_BYTES];

@@ -21,6 +21,7 @@ void calls_make(void);
  * `next` take the whole session buffer after an accepted one. */
 unsigned try_open(part session, part consist, uint8_t *opened);
 unsigned try_sample(part session, part sample, part profile, part targets, part decision, uint8_t *next);
+void try_version(void);
 void try_judges(part consist, part sample, part profile, part targets);
 unsigned try_write_consist(const uint32_t *fields, part out);
 unsigned try_write_profile(part starts, part grades, part curvatures, part out);

@@ -9,6 +9,8 @@
 
 enum { REACH = 32768, LAST_FOOT = 4000000 };
 
+unsigned long made_below_zero;
+
 static uint64_t state;
 
 void made_seed(uint64_t seed)
@@ -80,12 +82,14 @@ uint32_t made_reading(uint32_t hundredths)
 
 uint32_t made_odd_reading(void)
 {
-    /* zeros, subnormals, 100 and 160 with their neighbours, infinities, NaNs */
-    static const uint32_t odd[] = {0, 0x80000000, 1, 0x80000001, 0x007FFFFF, 0x00800000, 0x42C7FFFF, 0x42C80000,
+    /* zeros, denormals, 100 and 160 with their neighbours, infinities, NaNs */
+    static const uint32_t odd[] = {0, 0x80000000, 1, 0x80000001, 0x807FFFFF, 0x007FFFFF, 0x00800000, 0x42C7FFFF, 0x42C80000,
                                    0x42C80001, 0x431FFFFF, 0x43200000, 0x43200001, 0x7F7FFFFF, 0x7F800000, 0xFF800000,
                                    0x7F800001, 0x7FC00000, 0xFFC00000, 0xFFFFFFFF, 0xBF800000};
     uint32_t place = made_below(sizeof odd / sizeof *odd + 1);
-    return place < sizeof odd / sizeof *odd ? odd[place] : made_below(UINT32_MAX);
+    uint32_t reading = place < sizeof odd / sizeof *odd ? odd[place] : made_below(UINT32_MAX);
+    made_below_zero += reading > 0x80000000 && reading < 0x80800000;
+    return reading;
 }
 
 void made_consist(uint8_t *record, uint32_t *length)

@@ -25,6 +25,9 @@ uint32_t made_about(uint32_t least, uint32_t most);
 uint32_t made_reading(uint32_t hundredths);
 uint32_t made_odd_reading(void);
 
+/* How many of those were denormals below zero, which a processor that takes denormals as zero compares as if they were none. */
+extern unsigned long made_below_zero;
+
 /* A consist in its ranges, a train that brakes well; its length in *length. */
 void made_consist(uint8_t *record, uint32_t *length);
 

@@ -6,7 +6,10 @@
 
 #include "calls.h"
 
-enum { SESSION_ROOM = 64 };
+enum {
+    SESSION_ROOM = 64,
+    SLOW = 1000 /* hundredths of a mph: a short walk */
+};
 
 typedef struct {
     uint8_t session[SESSION_ROOM]; /* the record at its front, and noise */

@@ -1,8 +1,6 @@
--- Laws of the air brakes.
+-- Laws of the air brakes as they are held.
 pub mod StateNumbers
 pub mod Told
-pub mod Falls
 pub mod Sound
 pub mod Tested
-pub mod Figures
 pub mod Unique

@@ -7,7 +7,6 @@ use Rattle.brake.proofs.state_of.Reads as state-of
 use Rattle.brake.proofs.equalization_service.Reads as equalization-service
 use Rattle.brake.proofs.Brake.at_opening.Reads as at-opening
 use Rattle.brake.proofs.Brake.is_at_opening.Reads as is-at-opening
-use Rattle.brake.proofs.Brake.updated.Reads as updated
 use Rattle.brake.proofs.Brake.is_sound.Reads as is-sound
 
 module _ (κs : Lfts 0) where
@@ -25,9 +24,6 @@ module _ (κs : Lfts 0) where
 
   pub is-at-opening-one : (a r₁ r₂ x₁ x₂ : _) → is-at-opening.Post κs a r₁ x₁ → is-at-opening.Post κs a r₂ x₂ → r₁ ≡ r₂
   is-at-opening-one a r₁ r₂ x₁ x₂ p q = p ∙ sym q
-
-  pub updated-one : (a r₁ r₂ x₁ x₂ : _) → updated.Post κs a r₁ x₁ → updated.Post κs a r₂ x₂ → r₁ ≡ r₂
-  updated-one a r₁ r₂ x₁ x₂ p q = p ∙ sym q
 
   pub is-sound-one : (a r₁ r₂ x₁ x₂ : _) → is-sound.Post κs a r₁ x₁ → is-sound.Post κs a r₂ x₂ → r₁ ≡ r₂
   is-sound-one a r₁ r₂ x₁ x₂ p q = p ∙ sym q

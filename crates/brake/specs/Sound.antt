@@ -4,9 +4,6 @@ use Prim.Native.Nat.{ℕ, _+_, _-_, _*_, _^_, _≤_}
 use mathlib.Core.Bool.{Bool, _&&_}
 use lib.Dec.{leb, eqb}
 use Rattle.consist.specs.declared.Consist.{Consist}
-use Rattle.consist.specs.Sound as consist
-use Rattle.sample.specs.declared.RearPressure.{RearPressure}
-use Rattle.sample.specs.declared.RearPressure.the-variants.{Present, Lost}
 use Rattle.brake.specs.declared.State.{State}
 use Rattle.brake.specs.declared.State.the-variants.{Charged, ApplyingService, HoldingService, ApplyingEmergency, HoldingEmergency, Charging}
 use Rattle.brake.specs.declared.Brake.{Brake}
@@ -73,19 +70,3 @@ isSound c k =
     && leb (k .«last_rear») mostPressure
     && leb (k .«last_time») mostTime
     && isBalanced (k .state) (c .set) (k .a) (k .b) (k .equalization)
-
--- ---- what an update requires, and of what readings it keeps the invariant
-
-pub record Usable (c : Consist) (k : Brake) : Type 0 where
-  pub consist : consist.Sound c
-  pub brake : Sound c k
-
-abbrev pub rearMost : RearPressure → Type 0
-rearMost (Present rear) = rear ≤ mostPressure
-rearMost Lost = Unit {0}
-
--- the readings of an accepted sample, each in its range
-pub record InRange (time front : ℕ) (rear : RearPressure) : Type 0 where
-  pub time-most : time ≤ mostTime
-  pub front-most : front ≤ mostPressure
-  pub rear-most : rearMost rear

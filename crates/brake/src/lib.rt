@@ -1,16 +1,11 @@
-// The air brakes, once a sample.
+// The air brakes: what is held of them from sample to sample.
 mod invariant;
-mod readings;
-mod rules;
-mod states;
 
 use consist::Consist;
-use sample::RearPressure;
 ghost use mathlib.Core.Path.{_≡_};
 ghost use Rattle.brake.specs.State.{stateNumber, stateOf};
 ghost use Rattle.brake.specs.Brake.{atOpening, isAtOpening};
-ghost use Rattle.brake.specs.Rules.{equalizationService, updateOf};
-ghost use Rattle.brake.specs.Sound.{Usable};
+ghost use Rattle.brake.specs.Equalization.{equalizationService};
 
 pub enum State {
     Charged,
@@ -39,17 +34,6 @@ pub struct Brake {
     pub last_time: u32,
     // whether a sample was yet accepted
     pub sampled: bool,
-}
-
-// What the rules read of a sample.
-pub(crate) struct Reading {
-    // seconds
-    pub(crate) elapsed: u32,
-    // hundredths of a psi per second
-    pub(crate) rate: i64,
-    pub(crate) front: u16,
-    pub(crate) rear: u16,
-    pub(crate) nominal: u16,
 }
 
 // The state's number, as a decision carries it.
@@ -132,19 +116,5 @@ impl Brake {
             & (self.last_front == 0)
             & (self.last_rear == 0)
             & (self.last_time == 0)
-    }
-
-    // The brake after one accepted sample, of which no rule reads more than these.
-    pub fn updated(self, c: Consist, time: u32, front: u16, rear: RearPressure) -> Self
-        requires { ⌜ Usable c self ⌝ }
-        ensures { λ k. ⌜ k ≡ updateOf c self time front rear ⌝ }
-    {
-        let r = self.reading(c, time, front, rear);
-        let mut next = self.ruled(c, r);
-        next.last_front = front;
-        next.last_rear = r.rear;
-        next.last_time = time;
-        next.sampled = true;
-        next
     }
 }

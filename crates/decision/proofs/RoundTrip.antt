@@ -2,11 +2,11 @@
 use mathlib.Core.Path.{_≡_, refl, sym, ap, ap₂, _∙_}
 use Prim.Native.Nat.{ℕ}
 use mathlib.Core.List.{[], _∷_}
+use native.Mathlib.Omega.{arith}
 use lib.ListN.{getD}
 use lib.Dec.{eqb}
 use borrow.Author.Tests.{eqb-true, not-false}
 use Rattle.bits.specs.Fields.{split, Fit}
-use Rattle.bits.proofs.Fields.{split-fit}
 use Rattle.bits.proofs.Bit.{of-bit, to-bit}
 use Rattle.refusal.specs.Lowest.{lowest}
 use Rattle.refusal.specs.Steps.{kept}
@@ -36,7 +36,7 @@ to-fields n h =
     let fs = split widths n in
     ap₂ (λ (m p : ℕ). m ∷ getD fs 1 0 ∷ getD fs 2 0 ∷ p ∷ getD fs 4 0 ∷ getD fs 5 0 ∷ [])
     (sym (eqb-true (getD fs 0 0) mark (not-false (eqb (getD fs 0 0) mark) (accepted _ _ _ h .0))))
-    (to-bit (getD fs 3 0) (split-fit widths n .1 .1 .1 .0))
+    (to-bit (getD fs 3 0) (omega arith))
 
 pub written-reads-back : WrittenReadsBack
 unfolding WrittenReadsBack bytesOf decisionIn readDecision writeDecision

@@ -10,10 +10,11 @@ use Rattle.sample.specs.declared.Sample.{Sample}
 use Rattle.sample.specs.Sample.{readSample}
 use Rattle.sample.proofs.Told as sample-told
 use Rattle.decision.specs.declared.Decision.{Decision}
-use Rattle.session.proofs.Computing.{computing}
+use Rattle.sampling.proofs.Computing.{computing}
 use Rattle.session.proofs.Told as session-told
-use Rattle.mount.specs.Mount.{Sampled}
-use Rattle.mount.specs.Records.{consistWritten, consistJudged, profileWritten, profileJudged, targetsWritten, targetsJudged, sampleJudged}
+use Rattle.lent.specs.Lent.{Sampled}
+use Rattle.writes.specs.Written.{consistWritten, profileWritten, targetsWritten}
+use Rattle.tells.specs.Judged.{consistJudged, profileJudged, targetsJudged, sampleJudged}
 use Rattle.refusal.proofs as refusal
 use Rattle.consist.proofs as consist
 use Rattle.profile.proofs as profile
@@ -21,9 +22,14 @@ use Rattle.targets.proofs as targets
 use Rattle.sample.proofs as sample
 use Rattle.decision.proofs as decision
 use Rattle.session.proofs as session
+use Rattle.sampling.proofs as sampling
 use Rattle.held.proofs as held
-use Rattle.mount.proofs as mount
-use Rattle.mount.proofs.records as records
+use Rattle.stored.proofs as stored
+use Rattle.lent.proofs as lent
+use Rattle.writes.proofs as writes
+use Rattle.tells.proofs as tells
+use Rattle.buongilach.proofs as library
+use Rattle.buongilach.proofs.records as records
 use Rattle.demands.specs.Calls.{PublicCall, PlainCall, Calls}
 
 -- a contract without a `requires` asks `Unit`
@@ -62,12 +68,25 @@ calls = record {
   session-none = plain (λ M. session.none.Met.met) (λ l a r x p. session-told.session-one _ _ p);
   session-is-open = plain (λ M. session.is_open.Met.met) (λ l a r x p. p);
   session-open = plain (λ M. session.open.Met.met) (λ l a r x p. session-told.answer-one _ _ p);
-  session-sample = call (λ M. session.sample.Met.met) (λ l a r x p. session-told.call-one _ _ p);
+  session-sample = call (λ M. sampling.sample.Met.met) (λ l a r x p. session-told.call-one _ _ p);
   held-read = plain (λ M. held.read.Met.met) (λ l a r x p. session-told.answer-one _ _ p);
-  held-write = call (λ M. held.write.Met.met) (λ l a r x p. told-one _ _ p);
-  buongilach-open = call (λ M. mount.buongilach_open.Met.met) (λ l a r x p. p);
-  buongilach-sample = call (λ M. mount.buongilach_sample.Met.met) (λ l a r x p. ap {B = ℕ × (List ℕ × List ℕ)} (λ ((n, x, d) : Sampled). (n, (x, d))) p);
-  buongilach-is-open = plain (λ M. mount.buongilach_is_open.Met.met) (λ l a r x p. p);
+  held-read-start = plain (λ M. held.read_start.Met.met) (λ l a r x p. session-told.answer-one _ _ p);
+  stored-write = call (λ M. stored.write.Met.met) (λ l a r x p. told-one _ _ p);
+  lent-open = call (λ M. lent.open.Met.met) (λ l a r x p. p);
+  lent-sample = call (λ M. lent.sample.Met.met) (λ l a r x p. ap {B = ℕ × (List ℕ × List ℕ)} (λ ((n, x, d) : Sampled). (n, (x, d))) p);
+  lent-is-open = plain (λ M. lent.is_open.Met.met) (λ l a r x p. p);
+  writes-consist = call (λ M. writes.consist.Met.met) (λ l a r x p. p);
+  writes-profile = call (λ M. writes.profile.Met.met) (λ l a r x p. p);
+  writes-targets = call (λ M. writes.targets.Met.met) (λ l a r x p. p);
+  writes-sample = call (λ M. writes.sample.Met.met) (λ l a r x p. p);
+  tells-consist = plain (λ M. tells.consist.Met.met) (λ l a r x p. p);
+  tells-profile = plain (λ M. tells.profile.Met.met) (λ l a r x p. p);
+  tells-targets = plain (λ M. tells.targets.Met.met) (λ l a r x p. p);
+  tells-sample = plain (λ M. tells.sample.Met.met) (λ l a r x p. p);
+  tells-decision = call (λ M. tells.decision.Met.met) (λ l a r x p. p);
+  buongilach-open = call (λ M. library.buongilach_open.Met.met) (λ l a r x p. p);
+  buongilach-sample = call (λ M. library.buongilach_sample.Met.met) (λ l a r x p. ap {B = ℕ × (List ℕ × List ℕ)} (λ ((n, x, d) : Sampled). (n, (x, d))) p);
+  buongilach-is-open = plain (λ M. library.buongilach_is_open.Met.met) (λ l a r x p. p);
   buongilach-write-consist = call (λ M. records.buongilach_write_consist.Met.met) (λ l a r x p. p);
   buongilach-judge-consist = plain (λ M. records.buongilach_judge_consist.Met.met) (λ l a r x p. p);
   buongilach-write-profile = call (λ M. records.buongilach_write_profile.Met.met) (λ l a r x p. p);
@@ -77,4 +96,5 @@ calls = record {
   buongilach-write-sample = call (λ M. records.buongilach_write_sample.Met.met) (λ l a r x p. p);
   buongilach-judge-sample = plain (λ M. records.buongilach_judge_sample.Met.met) (λ l a r x p. p);
   buongilach-read-decision = call (λ M. records.buongilach_read_decision.Met.met) (λ l a r x p. p);
+  buongilach-version = plain (λ M. library.buongilach_version.Met.met) (λ l a r x p. p);
 }

@@ -14,9 +14,9 @@ use Rattle.decision.specs.declared.Decision.{Decision}
 use Rattle.decision.specs.Decision.{bytesOf}
 use Rattle.session.specs.declared.Session.{Session}
 use Rattle.session.specs.Session.{isOpen, noneOpen}
-use Rattle.session.specs.Sample.{sampleIn, sessionAfter, decisionOf, rules, sampleCall}
-use Rattle.session.specs.Laws.{Lent, OpensOpen, StaysOpen, OpenUnchanged, SampleUnchanged}
-use Rattle.session.proofs.Laws.{opens-open, stays-open, open-unchanged, sample-unchanged}
+use Rattle.sampling.specs.Sample.{sampleIn, sessionAfter, decisionOf, rules, sampleCall}
+use Rattle.sampling.specs.Laws.{Lent, OpensOpen, StaysOpen, OpenUnchanged, SampleUnchanged}
+use Rattle.sampling.proofs.Laws.{opens-open, stays-open, open-unchanged, sample-unchanged}
 use Rattle.demands.specs.Machine.{Call, opening, sampling, Lends, LendsEach, Reply, Machine, call, after, ours, Holding, Holds, Does, Decides}
 use Rattle.demands.specs.Program.{byValue}
 

@@ -27,16 +27,16 @@ use Rattle.session.specs.declared.Session.{Session}
 use Rattle.session.specs.declared.Answer.{Answer}
 use Rattle.session.specs.Session.{isOpen, noneOpen, sessionTold, callTold}
 use Rattle.session.specs.Open.{openOf, openedWith, openedBy}
-use Rattle.session.specs.Sample.{sampleCall}
-use Rattle.session.specs.Laws.{Lent}
-use Rattle.session.proofs.Admitted.{opened}
+use Rattle.sampling.specs.Sample.{sampleCall}
+use Rattle.sampling.specs.Laws.{Lent}
+use Rattle.session.proofs.Opened.{opened}
 use Rattle.session.proofs.Told.{session-one, answer-one, call-one}
 use Rattle.held.specs.Held as held
-use Rattle.held.specs.Held.{size, bytesOf, sessionIn, noSession, readSession}
-use Rattle.held.specs.Damage as damage
-use Rattle.held.proofs.Damage as held-damage
-use Rattle.held.proofs.RoundTrip.{size-of, bytes-of, bytes-read}
-use Rattle.mount.specs.Mount.{front, openRules, openBytes, Sampled, sampledBy, sampleBytes}
+use Rattle.held.specs.Held.{size, recordAt, bytesOf, sessionIn, noSession, readSession}
+use Rattle.laws.specs.HeldDamage as damage
+use Rattle.laws.proofs.HeldDamage as held-damage
+use Rattle.laws.proofs.HeldTrip.{size-of, bytes-of, bytes-read}
+use Rattle.lent.specs.Lent.{openRules, openBytes, Sampled, sampledBy, sampleBytes}
 use Rattle.demands.specs.Machine.{Call, opening, sampling, Lends, Reply, Machine, call, ours, Unopened, carry, Does, Slice}
 use Rattle.demands.specs.Program.{FitsWords, byValue, ourProgram}
 use Rattle.demands.specs.Program as program
@@ -152,7 +152,7 @@ module _ (z : List ℕ) where
   opens-so x Accepted s = ap (λ (b : List ℕ). record { told = 0; state = b; out = [] }) (left Accepted (openedWith (consistIn s)))
   opens-so x (Refused r) s = refl
 
-  -- what a sample call leaves, by what the record at the front is read as
+  -- what a sample call leaves, by what the record that the bytes begin with is read as
   module _ (l : Lent) where
     abbrev by-read : Verdict × Session → Reply (List ℕ) ℕ
     by-read a =
@@ -160,18 +160,18 @@ module _ (z : List ℕ) where
         record { told = r .0; state = r .1; out = r .2 }
 
     -- 1: no open session's record stands there
-    none-held : noSession (front z) ≡ true → call (ourLibrary z) z (sampling l) ≡ record { told = 1; state = z; out = l .out }
+    none-held : noSession (recordAt z) ≡ true → call (ourLibrary z) z (sampling l) ≡ record { told = 1; state = z; out = l .out }
     unfolding sampleBytes readSession
-    none-held n = ap (λ (v : Verdict). by-read (held.answer v (sessionIn (front z)))) (one-first (noSession (front z)) [] n)
+    none-held n = ap (λ (v : Verdict). by-read (held.answer v (sessionIn (recordAt z)))) (one-first (noSession (recordAt z)) [] n)
 
-    samples-so : (n : Bool) → noSession (front z) ≡ n → call (ourLibrary z) z (sampling l) ≡ carry inBytes z (call ours (inBytes .session z) (sampling l))
+    samples-so : (n : Bool) → noSession (recordAt z) ≡ n → call (ourLibrary z) z (sampling l) ≡ carry inBytes z (call ours (inBytes .session z) (sampling l))
     unfolding sampleBytes readSession
     samples-so true n =
-        let none = ap (λ (v : Verdict). kept v (sessionIn (front z)) noneOpen) (one-first (noSession (front z)) [] n) in
+        let none = ap (λ (v : Verdict). kept v (sessionIn (recordAt z)) noneOpen) (one-first (noSession (recordAt z)) [] n) in
         none-held n ∙ sym (ap (carry inBytes z) (ap (λ (x : Session). call ours x (sampling l)) none ∙ none-refuses l))
     samples-so false n =
         let r = call ours (inBytes .session z) (sampling l) in
-        ap (λ (v : Verdict). by-read (v, inBytes .session z)) (last-passed (noSession (front z)) NoSession n)
+        ap (λ (v : Verdict). by-read (v, inBytes .session z)) (last-passed (noSession (recordAt z)) NoSession n)
         ∙ ap {B = Reply (List ℕ) ℕ} (λ (b : List ℕ). record { told = numberOfVerdict (r .told); state = b; out = r .out }) (left (r .told) (r .state))
 
   ours-does : size ≤ length z → (k : Call) → call (ourLibrary z) z k ≡ carry inBytes z (call ours (inBytes .session z) k)
@@ -181,7 +181,7 @@ module _ (z : List ℕ) where
       ap {B = Reply (List ℕ) ℕ} (λ (v : Verdict). let r = written v (bytesOf (openedWith (consistIn s))) z in record { told = numberOfVerdict (r .0); state = r .1; out = [] })
       (open-verdict room s v refl)
       ∙ opens-so (inBytes .session z) v s
-  ours-does room (sampling l) = samples-so l (noSession (front z)) refl
+  ours-does room (sampling l) = samples-so l (noSession (recordAt z)) refl
 
 pub library-does : (m : Machine (List ℕ) ℕ) → library.Meets m → Does inBytes m
 library-does m met z x o k b = library-same m met z (o .0 .0) k b ∙ ours-does z (o .0 .1) k ∙ ap (λ (y : Session). carry inBytes z (call ours y k)) (o .1)
@@ -191,4 +191,4 @@ library-does m met z x o k b = library-same m met z (o .0 .0) k b ∙ ours-does 
 pub damage-seen : DamageSeen
 unfolding DamageSeen damage.DamageSeen
 damage-seen m met x z l o b lent d =
-    library-same m met z b (sampling l) lent ∙ none-held z l (held-damage.damage-seen x (front z) o (bytes-take size z (b .0)) (d .0) (d .1))
+    library-same m met z b (sampling l) lent ∙ none-held z l (held-damage.damage-seen x (recordAt z) o (bytes-take size z (b .0)) (d .0) (d .1))

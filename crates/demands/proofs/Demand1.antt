@@ -22,13 +22,14 @@ use Rattle.consist.specs.Consist.{readConsist, writeConsist}
 use Rattle.sample.specs.Sample.{layOut, judgeSample, readSample, writeSample}
 use Rattle.decision.specs.Decision.{readDecision, writeDecision}
 use Rattle.session.specs.Open.{openOf}
-use Rattle.session.specs.Sample.{sampleCall}
+use Rattle.sampling.specs.Sample.{sampleCall}
 use Rattle.held.specs.Held.{readSession, writeSession}
-use Rattle.mount.specs.Mount.{sampleRules, openBytes, Sampled}
-use Rattle.mount.specs.Records.{sampleWritten, decisionRead}
-use Rattle.mount.proofs.Calls.{leaves, by-rules}
+use Rattle.lent.specs.Lent.{sampleRules, openBytes, Sampled}
+use Rattle.writes.specs.Written.{sampleWritten}
+use Rattle.tells.specs.Judged.{decisionRead}
 use Rattle.demands.specs.Demand1.{among, oneToTwelve, RefusesBy, Refuses, RefusesC, Demand-1}
 use Rattle.demands.proofs.Calls.{calls}
+use Rattle.demands.proofs.ByRules.{leaves, by-rules}
 
 -- ---- the table
 
@@ -119,7 +120,7 @@ demand-1 = record {
   session-open = λ x s. reads _ refl;
   session-sample = λ x s p t out. refuses _ refl refl (λ q h. rw (h));
   held-read = λ s. reads _ refl;
-  held-write = λ x out. writes _ _ refl;
+  stored-write = λ x out. writes _ _ refl;
   told = tells;
   buongilach-open = λ consist session. tells _ (writes _ _ refl);
   buongilach-sample = λ session s p t decision.

@@ -1,8 +1,8 @@
 -- The table of figures, computed. Assumes nothing.
 use mathlib.Core.Path.{refl}
 use Rattle.hundredths.specs.Reading.{speedOf, pressureOf}
-use Rattle.session.proofs.Computing.{computing}
-use Rattle.feed.specs.Line.{lastDigits, decimal, decisionText}
+use Rattle.sampling.proofs.Computing.{computing}
+use Rattle.line.specs.Line.{lastDigits, decimal, decisionText}
 use Rattle.demands.specs.Figures.{Figures}
 
 pub figures : Figures

@@ -16,13 +16,14 @@ use Rattle.consist.specs.declared.Consist.{Consist}
 use Rattle.consist.specs.Consist.{consistIn, readRules, readConsist, answer}
 use Rattle.sample.specs.declared.Sample.{Sample}
 use Rattle.decision.specs.Decision.{bytesOf}
-use Rattle.brake.specs.Rules.{updateOf}
+use Rattle.update.specs.Rules.{updateOf}
+use Rattle.admission.specs.Table.{wrongTime}
 use Rattle.session.specs.declared.Session.{Session}
 use Rattle.session.specs.declared.Answer.{Answer}
 use Rattle.session.specs.Session.{isOpen}
 use Rattle.session.specs.Open.{openOf, openedBy}
-use Rattle.session.specs.Sample.{sampleIn, wrongTime, causeAfter, decisionOf, rules}
-use Rattle.session.specs.Laws.{Lent}
+use Rattle.sampling.specs.Sample.{sampleIn, causeAfter, decisionOf, rules}
+use Rattle.sampling.specs.Laws.{Lent}
 use Rattle.demands.specs.Machine.{Call, opening, sampling, Reply, call, ours}
 use Rattle.demands.specs.History.{brakes, callsIn, firstCall, causeIn, decisionAt, wrongTimeAfter, rulesAt, Standing, nothing, since, verdictAt, next, outAt, sessionAt}
 use Rattle.demands.specs.Demand2.{CauseStays}
@@ -61,7 +62,7 @@ unfolding brakes callsIn firstCall
 opened-is st s Accepted = refl
 opened-is st s (Refused r) = refl
 
-time-is : (c : Consist) (h : List Lent) (m : Sample) → wrongTime (sessionAt (since c h)) m ≡ wrongTimeAfter h m
+time-is : (c : Consist) (h : List Lent) (m : Sample) → wrongTime (sessionAt (since c h) .brake) m ≡ wrongTimeAfter h m
 unfolding wrongTime brakes updateOf
 time-is c [] m = refl
 time-is c (l ∷ h) m = refl

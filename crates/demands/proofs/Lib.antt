@@ -1,6 +1,7 @@
 -- What is demanded, proved from what the layers prove.
 pub mod Told
 pub mod Calls
+pub mod ByRules
 pub mod Demand1
 pub mod Carried
 pub mod Contracts

@@ -7,8 +7,8 @@ use native.Mathlib.Omega.{arith}
 use Rattle.bits.proofs.UpTo.{getD-upTo}
 use Rattle.targets.specs.Targets.{most, count, targetAt, speedsIn, locationsIn}
 use Rattle.walk.specs.Walk.{locationOf, isFast, predictOf}
-use Rattle.walk.specs.Literal.{Literally}
-use Rattle.walk.proofs.Literal as walk
+use Rattle.laws.specs.Literal.{Literally}
+use Rattle.laws.proofs.Literal as walk
 use Rattle.judge.specs.Judge.{isCalled, calls, firstFrom, causeOf}
 use Rattle.judge.specs.Approach.{Approach, arrivalOf, predictionOf, callOf}
 use Rattle.demands.specs.Demand2.{literally, locationFor, callsFor, Locations}

@@ -22,14 +22,15 @@ use Rattle.decision.specs.RoundTrip.{WrittenReadsBack}
 use Rattle.decision.proofs.Answers.{write-is}
 use Rattle.decision.proofs.RoundTrip.{written-reads-back}
 use Rattle.judge.specs.Approach.{predictionOf, callOf}
-use Rattle.judge.specs.Compare.{Compared}
-use Rattle.judge.proofs.Compare.{compared}
+use Rattle.laws.specs.Approaches.{Compared}
+use Rattle.laws.proofs.Approaches.{compared}
+use Rattle.prediction.specs.Steps.{Ready}
 use Rattle.session.specs.declared.Session.{Session}
-use Rattle.session.specs.Sample.{sampleIn, decisionOf, sampleCall, approach, causeAfter}
-use Rattle.session.specs.Steps.{rulesBefore, Ready}
-use Rattle.session.specs.Laws.{Lent, afterSamples, CauseStands}
-use Rattle.session.proofs.Admitted.{in-range, ready}
-use Rattle.session.proofs.Laws.{cause-stands}
+use Rattle.sampling.specs.Sample.{sampleIn, decisionOf, sampleCall, approach, causeAfter}
+use Rattle.sampling.specs.Steps.{rulesBefore}
+use Rattle.sampling.specs.Laws.{Lent, afterSamples, CauseStands}
+use Rattle.sampling.proofs.Admitted.{in-range, ready}
+use Rattle.sampling.proofs.Laws.{cause-stands}
 use Rattle.demands.specs.Machine.{sampling, call, ours, Decides, Call, opening, Lends, LendsEach, Reply, Machine, replies, after, Holding, Holds, Unopened, carry, Does, Accepts}
 use Rattle.demands.specs.Program.{byValue}
 use Rattle.demands.specs.History.{decisionAt, rulesAt, Standing, nothing, since, verdictAt, next, outAt, sessionAt, standingAfter, paperFrom}

@@ -26,28 +26,28 @@ use Rattle.consist.proofs.RoundTrip as consist-back
 use Rattle.profile.specs.declared.Segment.{Segment}
 use Rattle.table.specs.Table as table
 use Rattle.table.proofs.Writing.{length-bytes-of}
-use Rattle.profile.specs.Profile.{size as profileSize, segments, segmentOf, judgeProfile, writeRules as profileRules, writeProfile}
-use Rattle.profile.specs.RoundTrip.{startsIn, gradesIn, curvaturesIn}
-use Rattle.profile.specs.RoundTrip as profile-trip
-use Rattle.profile.proofs.RoundTrip as profile-back
-use Rattle.profile.proofs.Sound.{written-lengths}
+use Rattle.profile.specs.Profile.{size as profileSize, segments, segmentOf, startsIn, gradesIn, curvaturesIn, judgeProfile, writeRules as profileRules, writeProfile}
+use Rattle.laws.specs.ProfileTrip as profile-trip
+use Rattle.laws.proofs.ProfileTrip as profile-back
+use Rattle.laws.proofs.ProfileTrip.{written-lengths}
 use Rattle.targets.specs.declared.Target.{Target}
 use Rattle.targets.specs.Targets.{size as targetsSize, targets, targetOf, judgeTargets, locationsIn, speedsIn, writeRules as targetsRules, writeTargets}
 use Rattle.targets.specs.RoundTrip as targets-trip
 use Rattle.targets.proofs.RoundTrip as targets-back
 use Rattle.targets.proofs.Sound as targets-sound
 use Rattle.sample.specs.Sample.{size as sampleSize, ofFields, bytesOf, readSample, writeRules, writeSample}
-use Rattle.sample.specs.RoundTrip as sample-trip
-use Rattle.sample.proofs.RoundTrip as sample-back
+use Rattle.laws.specs.SampleTrip as sample-trip
+use Rattle.laws.proofs.SampleTrip as sample-back
 use Rattle.decision.specs.Decision.{readDecision, writeDecision}
 use Rattle.decision.specs.Decision as decision
 use Rattle.decision.specs.RoundTrip as decision-trip
 use Rattle.decision.proofs.RoundTrip as decision-back
 use Rattle.held.specs.Held as held
-use Rattle.held.specs.RoundTrip as held-trip
-use Rattle.held.proofs.RoundTrip as held-back
+use Rattle.laws.specs.HeldTrip as held-trip
+use Rattle.laws.proofs.HeldTrip as held-back
 use Rattle.held.proofs.Answers.{read-inv}
-use Rattle.mount.specs.Records.{sampleWriteRules, sampleWritten, decisionNumbers, numbersOf, decisionRules, decisionRead}
+use Rattle.writes.specs.Written.{sampleWriteRules, sampleWritten}
+use Rattle.tells.specs.Judged.{decisionNumbers, numbersOf, decisionRules, decisionRead}
 use Rattle.demands.specs.RoundTrips.{ReadsBack, RoundTrip, Segments, RoundTrips}
 
 -- ---- bytes past the record

@@ -17,16 +17,17 @@ use Rattle.targets.specs.Targets.{most, speedsIn}
 use Rattle.decision.specs.declared.Decision.{Decision}
 use Rattle.decision.specs.Decision.{size, readDecision}
 use Rattle.walk.specs.declared.Prediction.{Prediction}
-use Rattle.walk.specs.Curve.{penaltyCurve}
+use Rattle.step.specs.Curve.{penaltyCurve}
 use Rattle.walk.proofs.predict.{signature}
 use Rattle.judge.specs.Approach.{Approach, predictionOf}
+use Rattle.prediction.proofs.Ready.{walkable}
 use Rattle.session.specs.declared.Session.{Session}
 use Rattle.session.specs.Session.{noneOpen}
-use Rattle.session.specs.Sample.{sampleIn, brakeAfter, approach}
-use Rattle.session.specs.Laws.{Lent}
-use Rattle.session.proofs.Accepted.{predictable, walkable}
-use Rattle.session.proofs.Admitted.{ready}
-use Rattle.session.proofs.Computing.{computing}
+use Rattle.sampling.specs.Sample.{sampleIn, brakeAfter, approach}
+use Rattle.sampling.specs.Laws.{Lent}
+use Rattle.sampling.proofs.Accepted.{predictable}
+use Rattle.sampling.proofs.Admitted.{ready}
+use Rattle.sampling.proofs.Computing.{computing}
 use Rattle.demands.specs.Machine.{Call, opening, sampling, Slice, Lends, LendsEach, Reply, Machine, call, replies, after, ours, Holding, Unopened, Does, Accepts, Decides}
 use Rattle.demands.specs.History.{brakes, callsIn, firstCall, nothing, paperFrom}
 use Rattle.demands.specs.Demand2.{telling, Demand-2}

@@ -13,10 +13,12 @@ use Rattle.sample.specs.Sample.{layOut, judgeSample, readSample, writeSample}
 use Rattle.decision.specs.Decision.{readDecision, writeDecision}
 use Rattle.session.specs.Session.{noneOpen, isOpen}
 use Rattle.session.specs.Open.{openOf}
-use Rattle.session.specs.Sample.{sampleCall}
-use Rattle.held.specs.Held.{readSession, writeSession}
-use Rattle.mount.specs.Mount.{openBytes, sampleBytes, isOpenBytes}
-use Rattle.mount.specs.Records.{sampleFields, sampleWritten, decisionRead}
+use Rattle.sampling.specs.Sample.{sampleCall}
+use Rattle.held.specs.Held.{recordAt, readSession, writeSession}
+use Rattle.lent.specs.Lent.{openBytes, sampleBytes, isOpenBytes}
+use Rattle.writes.specs.Written.{sampleFields, sampleWritten}
+use Rattle.tells.specs.Judged.{decisionRead}
+use Rattle.buongilach.specs.Version.{version}
 use Rattle.refusal.proofs as refusal
 use Rattle.consist.proofs as consist
 use Rattle.profile.proofs as profile
@@ -24,9 +26,14 @@ use Rattle.targets.proofs as targets
 use Rattle.sample.proofs as sample
 use Rattle.decision.proofs as decision
 use Rattle.session.proofs as session
+use Rattle.sampling.proofs as sampling
 use Rattle.held.proofs as held
-use Rattle.mount.proofs as mount
-use Rattle.mount.proofs.records as records
+use Rattle.stored.proofs as stored
+use Rattle.lent.proofs as lent
+use Rattle.writes.proofs as writes
+use Rattle.tells.proofs as tells
+use Rattle.buongilach.proofs as library
+use Rattle.buongilach.proofs.records as records
 
 -- `l` are a call's lifetimes, `a` is what it is given, `r` its answer, `x` what it was given, after the call
 module _ {L : Type 0} {Given Answer Exit : L → Type 0} (Statement : Type 1 → Type 2)
@@ -100,23 +107,57 @@ pub record Calls : Type 2 where
       (λ l (x, _). isOpen x)
   pub session-open : PlainCall session.open.Statement.statement session.open.Reads.Asked session.open.Reads.Post
       (λ l (x, (s, _)). openOf x (now s))
-  pub session-sample : PublicCall session.sample.Statement.statement session.sample.Reads.Asked session.sample.Reads.Post
+  pub session-sample : PublicCall sampling.sample.Statement.statement sampling.sample.Reads.Asked sampling.sample.Reads.Post
       (λ l (_, (_, (_, (_, (out, _))))). now out)
       (λ l (x, (s, (p, (t, (out, _))))). sampleCall x (now s) (now p) (now t) (now out))
-  -- the session's record: reader, writer
+  -- the session's record: reader, of all bytes and of those that others begin with; writer
   pub held-read : PlainCall held.read.Statement.statement held.read.Reads.Asked held.read.Reads.Post
       (λ l (s, _). let (v, x) = readSession (now s) in record { verdict = v; session = x })
-  pub held-write : PublicCall held.write.Statement.statement held.write.Reads.Asked held.write.Reads.Post
+  pub held-read-start : PlainCall held.read_start.Statement.statement held.read_start.Reads.Asked held.read_start.Reads.Post
+      (λ l (s, _). let (v, x) = readSession (recordAt (now s)) in record { verdict = v; session = x })
+  pub stored-write : PublicCall stored.write.Statement.statement stored.write.Reads.Asked stored.write.Reads.Post
       (λ l (_, (out, _)). now out) (λ l (x, (out, _)). writeSession x (now out))
-  -- for C, the session in lent bytes: an opening, a sample, the test
-  pub buongilach-open : PublicCall mount.buongilach_open.Statement.statement mount.buongilach_open.Reads.Asked mount.buongilach_open.Reads.Post
+  -- the session in lent bytes: an opening, a sample, the test
+  pub lent-open : PublicCall lent.open.Statement.statement lent.open.Reads.Asked lent.open.Reads.Post
       (λ l (session, _). now session) (λ l (session, (consist, _)). openBytes (now consist) (now session))
-  pub buongilach-sample : PublicCall mount.buongilach_sample.Statement.statement mount.buongilach_sample.Reads.Asked mount.buongilach_sample.Reads.Post
+  pub lent-sample : PublicCall lent.sample.Statement.statement lent.sample.Reads.Asked lent.sample.Reads.Post
       {Lent = List ℕ × List ℕ} (λ l (session, (_, (_, (_, (decision, _))))). (now session, now decision))
       (λ l (session, (s, (p, (t, (decision, _))))). let (n, x, d) = sampleBytes (now session) (now s) (now p) (now t) (now decision) in (n, (x, d)))
-  pub buongilach-is-open : PlainCall mount.buongilach_is_open.Statement.statement mount.buongilach_is_open.Reads.Asked mount.buongilach_is_open.Reads.Post
+  pub lent-is-open : PlainCall lent.is_open.Statement.statement lent.is_open.Reads.Asked lent.is_open.Reads.Post
       (λ l (session, _). isOpenBytes (now session))
-  -- for C, the records: writer and judge of each, and the reader of a decision; where the definition is one above, its verdict is told as a number
+  -- each record from numbers, written; where the definition is one above, its verdict is told as a number
+  pub writes-consist : PublicCall writes.consist.Statement.statement writes.consist.Reads.Asked writes.consist.Reads.Post
+      (λ l (_, (_, (_, (_, (_, (_, (_, (_, (_, (out, _)))))))))). now out)
+      (λ l (cars, (axles, (weight, (length, (rated, (application, (recharge, (set, (offset, (out, _)))))))))).
+      told (writeConsist (ofFields (cars ∷ axles ∷ weight ∷ length ∷ rated ∷ application ∷ recharge ∷ set ∷ offset ∷ [])) (now out)))
+  pub writes-profile : PublicCall writes.profile.Statement.statement writes.profile.Reads.Asked writes.profile.Reads.Post
+      (λ l (_, (_, (_, (out, _)))). now out)
+      (λ l (starts, (grades, (curvatures, (out, _)))). told (writeProfile (now starts) (now grades) (now curvatures) (now out)))
+  pub writes-targets : PublicCall writes.targets.Statement.statement writes.targets.Reads.Asked writes.targets.Reads.Post
+      (λ l (_, (_, (out, _))). now out) (λ l (locations, (speeds, (out, _))). told (writeTargets (now locations) (now speeds) (now out)))
+  pub writes-sample : PublicCall writes.sample.Statement.statement writes.sample.Reads.Asked writes.sample.Reads.Post
+      (λ l (_, (_, (_, (_, (_, (_, (out, _))))))). now out)
+      (λ l (time, (head, (speed, (front, (present, (rear, (out, _))))))). sampleWritten (sampleFields time present head speed front rear) (now out))
+  -- each record told as numbers: judged, and a decision read
+  pub tells-consist : PlainCall tells.consist.Statement.statement tells.consist.Reads.Asked tells.consist.Reads.Post
+      (λ l (s, _). told (readConsist (now s)) .0)
+  pub tells-profile : PlainCall tells.profile.Statement.statement tells.profile.Reads.Asked tells.profile.Reads.Post
+      (λ l (p, _). told (judgeProfile (now p)) .0)
+  pub tells-targets : PlainCall tells.targets.Statement.statement tells.targets.Reads.Asked tells.targets.Reads.Post
+      (λ l (t, _). told (judgeTargets (now t)) .0)
+  pub tells-sample : PlainCall tells.sample.Statement.statement tells.sample.Reads.Asked tells.sample.Reads.Post
+      (λ l (s, _). told (readSample (now s)) .0)
+  pub tells-decision : PublicCall tells.decision.Statement.statement tells.decision.Reads.Asked tells.decision.Reads.Post
+      (λ l (_, (numbers, _)). now numbers) (λ l (s, (numbers, _)). decisionRead (now s) (now numbers))
+  -- for C, each as above: the session in lent bytes
+  pub buongilach-open : PublicCall library.buongilach_open.Statement.statement library.buongilach_open.Reads.Asked library.buongilach_open.Reads.Post
+      (λ l (session, _). now session) (λ l (session, (consist, _)). openBytes (now consist) (now session))
+  pub buongilach-sample : PublicCall library.buongilach_sample.Statement.statement library.buongilach_sample.Reads.Asked library.buongilach_sample.Reads.Post
+      {Lent = List ℕ × List ℕ} (λ l (session, (_, (_, (_, (decision, _))))). (now session, now decision))
+      (λ l (session, (s, (p, (t, (decision, _))))). let (n, x, d) = sampleBytes (now session) (now s) (now p) (now t) (now decision) in (n, (x, d)))
+  pub buongilach-is-open : PlainCall library.buongilach_is_open.Statement.statement library.buongilach_is_open.Reads.Asked library.buongilach_is_open.Reads.Post
+      (λ l (session, _). isOpenBytes (now session))
+  -- the records, written, judged, and a decision read
   pub buongilach-write-consist :
       PublicCall records.buongilach_write_consist.Statement.statement records.buongilach_write_consist.Reads.Asked records.buongilach_write_consist.Reads.Post
       (λ l (_, (_, (_, (_, (_, (_, (_, (_, (_, (out, _)))))))))). now out)
@@ -148,3 +189,6 @@ pub record Calls : Type 2 where
   pub buongilach-read-decision :
       PublicCall records.buongilach_read_decision.Statement.statement records.buongilach_read_decision.Reads.Asked records.buongilach_read_decision.Reads.Post
       (λ l (_, (numbers, _)). now numbers) (λ l (s, (numbers, _)). decisionRead (now s) (now numbers))
+  -- and the version
+  pub buongilach-version : PlainCall library.buongilach_version.Statement.statement library.buongilach_version.Reads.Asked library.buongilach_version.Reads.Post
+      (λ l _. version)

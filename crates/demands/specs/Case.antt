@@ -4,7 +4,7 @@ use Prim.Native.Nat.{ℕ}
 use Rattle.session.specs.declared.Session.{Session}
 use Rattle.session.specs.Session.{noneOpen}
 use Rattle.session.specs.Open.{openOf}
-use Rattle.session.specs.Sample.{sampleCall}
+use Rattle.sampling.specs.Sample.{sampleCall}
 pub use Rattle.feed.specs.Case.{consist, profile, targets, sample}
 
 abbrev pub out : List ℕ

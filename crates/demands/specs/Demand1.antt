@@ -26,10 +26,11 @@ use Rattle.decision.specs.Decision as decision
 use Rattle.session.specs.declared.Session.{Session}
 use Rattle.session.specs.Session.{noneOpen}
 use Rattle.session.specs.Open.{openOf}
-use Rattle.session.specs.Sample.{rules, sampleCall}
+use Rattle.sampling.specs.Sample.{rules, sampleCall}
 use Rattle.held.specs.Held as held
-use Rattle.mount.specs.Mount.{openRules, sampleRules, openBytes, sampleBytes}
-use Rattle.mount.specs.Records.{sampleWriteRules, sampleWritten, decisionRules, decisionRead}
+use Rattle.lent.specs.Lent.{openRules, sampleRules, openBytes, sampleBytes}
+use Rattle.writes.specs.Written.{sampleWriteRules, sampleWritten}
+use Rattle.tells.specs.Judged.{decisionRules, decisionRead}
 use Rattle.demands.specs.Calls.{Calls}
 
 -- ---- "every refusal carries one number from the table"
@@ -98,7 +99,7 @@ pub record Demand-1 : Type 2 where
       let (a, bytes) = sampleCall x s p t out in
       Refuses {S = Session × List ℕ} (1 ∷ 2 ∷ 3 ∷ 6 ∷ 7 ∷ 8 ∷ 9 ∷ 10 ∷ 11 ∷ 12 ∷ []) (rules x s p t out) (x, out) (a .verdict, (a .session, bytes))
   pub held-read : (s : List ℕ) → Refuses (1 ∷ []) (held.readRules s) noneOpen (held.readSession s)
-  pub held-write : (x : Session) (out : List ℕ) → Refuses (1 ∷ 12 ∷ []) (held.writeRules x out) out (held.writeSession x out)
+  pub stored-write : (x : Session) (out : List ℕ) → Refuses (1 ∷ 12 ∷ []) (held.writeRules x out) out (held.writeSession x out)
   -- for C the same holds of a definition above, told; four calls have a definition of their own
   pub told : {S : Type 0} {numbers : List ℕ} {rules : List Rule} {before : S} (answer : Verdict × S)
       → Refuses numbers rules before answer → RefusesC numbers rules before (told answer)

@@ -9,10 +9,10 @@ use Rattle.consist.specs.declared.Consist.{Consist}
 use Rattle.targets.specs.Targets.{most, count, targetAt, speedsIn}
 use Rattle.decision.specs.declared.Decision.{Decision}
 use Rattle.walk.specs.Walk.{Arrival, locationOf, isFast}
-use Rattle.walk.specs.Literal.{walkZ, startZ}
+use Rattle.laws.specs.Literal.{walkZ, startZ}
 use Rattle.judge.specs.Judge.{isCalled, firstFrom}
 use Rattle.judge.specs.Approach.{Approach, force, ground, predictionOf, callOf}
-use Rattle.session.specs.Laws.{Lent}
+use Rattle.sampling.specs.Laws.{Lent}
 use Rattle.demands.specs.Machine.{Call, opening, sampling, Lends, LendsEach, Machine, call, replies, after, Holding, Accepts, Decides}
 use Rattle.demands.specs.History.{causeIn, decisionAt, Standing, nothing, since, sessionAt, standingAfter, paperFrom}
 

@@ -5,10 +5,10 @@ use mathlib.Core.Path.{_≡_}
 use mathlib.Core.Bool.{true}
 use Prim.Native.Nat.{_≤_}
 use Rattle.decision.specs.declared.Decision.{Decision}
-use Rattle.judge.specs.Compare.{Worse, AsCautious}
+use Rattle.laws.specs.Approaches.{Worse, AsCautious}
 use Rattle.session.specs.declared.Session.{Session}
-use Rattle.session.specs.Sample.{sampleIn, approach}
-use Rattle.session.specs.Laws.{Lent}
+use Rattle.sampling.specs.Sample.{sampleIn, approach}
+use Rattle.sampling.specs.Laws.{Lent}
 use Rattle.demands.specs.Machine.{sampling, Lends, Machine, call, Holding, Holds, Decides}
 
 -- of any two sample calls that are accepted, of any two machines, whatever their states

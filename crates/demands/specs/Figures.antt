@@ -8,14 +8,15 @@ use Rattle.hundredths.specs.Figures.{pressureAt, speedAt}
 use Rattle.consist.specs.Figures.{train}
 use Rattle.decision.specs.declared.Decision.{Decision}
 use Rattle.decision.specs.Decision.{readDecision}
-use Rattle.brake.specs.Rules.{equalizationService, equalizationEmergency, combined, fallService}
+use Rattle.brake.specs.Equalization.{equalizationService}
+use Rattle.air.specs.Rules.{equalizationEmergency, combined, fallService}
 use Rattle.track.specs.Track.{gradeUnder}
 use Rattle.track.specs.Figures.{dip}
-use Rattle.walk.specs.Curve.{cylinderAt, forceAt, penaltyCurve}
-use Rattle.walk.specs.Step.{loss, stepTime}
+use Rattle.step.specs.Curve.{cylinderAt, forceAt, penaltyCurve}
+use Rattle.step.specs.Step.{loss, stepTime}
 use Rattle.judge.specs.Judge.{offsetFor}
-use Rattle.session.specs.Sample.{sampleCall}
-use Rattle.feed.specs.Line.{decisionText}
+use Rattle.sampling.specs.Sample.{sampleCall}
+use Rattle.line.specs.Line.{decisionText}
 use Rattle.feed.specs.Case.{secondLine}
 use Rattle.demands.specs.Case.{standing, sample, profile, targets, out}
 

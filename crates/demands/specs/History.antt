@@ -19,14 +19,15 @@ use Rattle.decision.specs.Decision.{bytesOf}
 use Rattle.brake.specs.declared.Brake.{Brake}
 use Rattle.brake.specs.State.{stateNumber}
 use Rattle.brake.specs.Brake.{atOpening}
-use Rattle.brake.specs.Rules.{updateOf}
+use Rattle.update.specs.Rules.{updateOf}
 use Rattle.walk.specs.declared.Prediction.{Prediction}
 use Rattle.judge.specs.Approach.{Approach, predictionOf, callOf}
+use Rattle.admission.specs.Table.{linesOpen}
+use Rattle.prediction.specs.Prediction.{approachOf}
 use Rattle.session.specs.declared.Session.{Session}
 use Rattle.session.specs.Session.{noneOpen}
-use Rattle.session.specs.Table.{linesOpen}
-use Rattle.session.specs.Sample.{sampleIn, approachOf}
-use Rattle.session.specs.Laws.{Lent}
+use Rattle.sampling.specs.Sample.{sampleIn}
+use Rattle.sampling.specs.Laws.{Lent}
 use Rattle.demands.specs.Machine.{Call, opening, sampling}
 
 -- ---- "The air brakes, once a sample"

@@ -13,20 +13,20 @@ use Rattle.seal.specs.Apart.{apart}
 use Rattle.refusal.specs.Number.{numberOfVerdict}
 use Rattle.session.specs.declared.Session.{Session}
 use Rattle.session.specs.Session.{isOpen}
-use Rattle.session.specs.Laws.{Lent}
-use Rattle.held.specs.Held.{size, bytesOf, readSession}
-use Rattle.mount.specs.Mount.{front, openBytes, sampleBytes}
-use Rattle.mount.proofs.buongilach_open as open-call
-use Rattle.mount.proofs.buongilach_sample as sample-call
+use Rattle.sampling.specs.Laws.{Lent}
+use Rattle.held.specs.Held.{size, recordAt, bytesOf, readSession}
+use Rattle.lent.specs.Lent.{openBytes, sampleBytes}
+use Rattle.buongilach.proofs.buongilach_open as open-call
+use Rattle.buongilach.proofs.buongilach_sample as sample-call
 use Rattle.demands.specs.Machine.{Slice, Lends, sampling, Machine, call, Holding, Unopened}
 
--- ---- a state is bytes with the session's record at their front, and a verdict is told as its number
+-- ---- a state is bytes that begin with the session's record, and a verdict is told as its number
 
 -- as many bytes as the record has, or more, and a call leaves those past it as they were; fewer are never an open session, and stay none
 abbrev pub inBytes : Holding (List ℕ) ℕ
 inBytes = record {
   Fits = λ z. Slice z × (size ≤ length z);
-  session = λ z. readSession (front z) .1;
+  session = λ z. readSession (recordAt z) .1;
   put = λ z x. bytesOf x ++ drop size z;
   tell = numberOfVerdict;
 }
@@ -65,8 +65,8 @@ ourLibrary z = record {
 abbrev pub Damaged : List ℕ → List ℕ → Type 0
 Damaged s t = (1 ≤ apart s t) × (apart s t ≤ 2)
 
--- a sample call with such a record at the front of the session's bytes tells 1, and leaves these and the decision's as they were
+-- a sample call with such a record at the start of the session's bytes tells 1, and leaves these and the decision's as they were
 unfoldable pub DamageSeen : Type 0
 DamageSeen =
     (m : Machine (List ℕ) ℕ) → Meets m → (x : Session) (session : List ℕ) (l : Lent) → isOpen x ≡ true → Slice session → Lends (sampling l)
-    → Damaged (bytesOf x) (front session) → call m session (sampling l) ≡ record { told = 1; state = session; out = l .out }
+    → Damaged (bytesOf x) (recordAt session) → call m session (sampling l) ≡ record { told = 1; state = session; out = l .out }

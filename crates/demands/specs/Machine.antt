@@ -13,8 +13,8 @@ use Rattle.decision.specs.Decision.{size, readDecision}
 use Rattle.session.specs.declared.Session.{Session}
 use Rattle.session.specs.Session.{noneOpen}
 use Rattle.session.specs.Open.{openOf}
-use Rattle.session.specs.Sample.{sampleCall}
-use Rattle.session.specs.Laws.{Lent}
+use Rattle.sampling.specs.Sample.{sampleCall}
+use Rattle.sampling.specs.Laws.{Lent}
 
 -- ---- the calls of a customer
 

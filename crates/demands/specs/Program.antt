@@ -13,12 +13,12 @@ use Rattle.consist.specs.Consist.{fieldsOf}
 use Rattle.brake.specs.Brake.{brakeTold}
 use Rattle.session.specs.declared.Session.{Session}
 use Rattle.session.specs.Session.{answer}
-use Rattle.session.specs.Laws.{Lent}
+use Rattle.sampling.specs.Laws.{Lent}
 use Rattle.session.proofs.none.Reads as none-reads
 use Rattle.session.proofs.open as open-call
 use Rattle.session.proofs.open.Reads as open-reads
-use Rattle.session.proofs.sample as sample-call
-use Rattle.session.proofs.sample.Reads as sample-reads
+use Rattle.sampling.proofs.sample as sample-call
+use Rattle.sampling.proofs.sample.Reads as sample-reads
 use Rattle.demands.specs.Machine.{Slice, Lends, sampling, Machine, ours, Holding}
 
 -- ---- a state is the session itself, and a verdict is told as it is

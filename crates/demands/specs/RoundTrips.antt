@@ -10,14 +10,14 @@ use Rattle.refusal.specs.declared.Verdict.{Verdict}
 use Rattle.refusal.specs.declared.Verdict.the-variants.{Accepted}
 use Rattle.refusal.specs.Number.{told}
 use Rattle.consist.specs.Consist as consist
-use Rattle.profile.specs.Profile.{size as profileSize, judgeProfile, writeProfile}
-use Rattle.profile.specs.RoundTrip.{startsIn, gradesIn, curvaturesIn}
+use Rattle.profile.specs.Profile.{size as profileSize, startsIn, gradesIn, curvaturesIn, judgeProfile, writeProfile}
 use Rattle.targets.specs.Targets.{size as targetsSize, judgeTargets, locationsIn, speedsIn, writeTargets}
 use Rattle.sample.specs.Sample.{size as sampleSize, ofFields, readSample, writeSample}
 use Rattle.decision.specs.declared.Decision.{Decision}
 use Rattle.decision.specs.Decision.{size as decisionSize, readDecision, writeDecision}
 use Rattle.held.specs.Held as held
-use Rattle.mount.specs.Records.{sampleWritten, decisionNumbers, numbersOf, decisionRead}
+use Rattle.writes.specs.Written.{sampleWritten}
+use Rattle.tells.specs.Judged.{decisionNumbers, numbersOf, decisionRead}
 
 -- ---- the law
 

@@ -16,18 +16,18 @@ use Rattle.consist.specs.declared.Consist.{Consist}
 use Rattle.decision.specs.declared.Decision.{Decision}
 use Rattle.decision.specs.Decision.{size}
 use Rattle.track.specs.declared.Track.{Track}
-use Rattle.walk.specs.declared.Curve.{Curve}
+use Rattle.step.specs.declared.Curve.{Curve}
 use Rattle.walk.specs.declared.Prediction.{Prediction}
-use Rattle.walk.specs.declared.Run.{Run}
-use Rattle.walk.specs.Curve.{forceAt}
-use Rattle.walk.specs.Step.{Ground, groundOf, loss, stepTime}
+use Rattle.step.specs.declared.Run.{Run}
+use Rattle.step.specs.Curve.{forceAt}
+use Rattle.step.specs.Step.{Ground, groundOf, loss, stepTime}
 use Rattle.walk.specs.Walk.{Arrival, never, tooFast, arrivalBy, start, locationOf, predictOf}
 use Rattle.walk.specs.Range.{Walkable}
 use Rattle.walk.proofs.predict.{signature, ended}
 use Rattle.walk.proofs.predict.Reads as predict-reads
 use Rattle.judge.specs.Approach.{Approach, force, ground}
-use Rattle.session.specs.Sample.{sampleIn, approach}
-use Rattle.session.specs.Laws.{Lent}
+use Rattle.sampling.specs.Sample.{sampleIn, approach}
+use Rattle.sampling.specs.Laws.{Lent}
 use Rattle.demands.specs.Machine.{Call, opening, sampling, Slice, Lends, LendsEach, Reply, Machine, call, after, Holding, Accepts, Decides}
 
 -- ---- the walk that makes one honest step and repeats it

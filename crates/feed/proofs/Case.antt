@@ -1,8 +1,8 @@
 -- The case of document 01 as one feed, computed. Assumes nothing.
 use mathlib.Core.Path.{refl}
-use Rattle.session.proofs.Computing.{computing}
-use Rattle.feed.specs.Opening.{profileAhead, targetsAhead, taken}
-use Rattle.feed.specs.Line.{lastDigits, decimal, decisionText, refusalText}
+use Rattle.sampling.proofs.Computing.{computing}
+use Rattle.opening.specs.Opening.{profileAhead, targetsAhead, taken}
+use Rattle.line.specs.Line.{lastDigits, decimal, decisionText, refusalText}
 use Rattle.feed.specs.Output.{linesOf, outputOf}
 use Rattle.feed.specs.Case.{Case}
 

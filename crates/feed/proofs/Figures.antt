@@ -1,8 +1,8 @@
 -- The figures of the lines and of the counts, computed. Assumes nothing.
 use mathlib.Core.Path.{refl}
 use Rattle.table.specs.Table.{counted}
-use Rattle.feed.specs.Opening.{profileAhead, targetsAhead}
-use Rattle.feed.specs.Line.{lastDigits, decimal, decisionText, refusalText}
+use Rattle.opening.specs.Opening.{profileAhead, targetsAhead}
+use Rattle.line.specs.Line.{lastDigits, decimal, decisionText, refusalText}
 use Rattle.feed.specs.Figures.{Figures}
 
 pub figures : Figures

@@ -2,7 +2,7 @@
 use mathlib.Core.Path.{ap}
 use Rattle.decision.specs.RoundTrip.{WrittenReadsBack}
 use Rattle.decision.proofs.RoundTrip.{written-reads-back}
-use Rattle.feed.specs.Line.{recordText}
+use Rattle.line.specs.Line.{recordText}
 use Rattle.feed.specs.Printed.{WrittenIsPrinted}
 
 pub written-is-printed : WrittenIsPrinted

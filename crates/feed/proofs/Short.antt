@@ -16,11 +16,11 @@ use Rattle.decision.specs.Decision as decision
 use Rattle.session.specs.declared.Session.{Session}
 use Rattle.session.specs.declared.Answer.{Answer}
 use Rattle.session.specs.Session.{isOpen, refusedWith}
-use Rattle.session.specs.Sample.{sampleCall}
-use Rattle.session.specs.Laws.{SampleUnchanged, StaysOpen}
-use Rattle.session.proofs.Calls.{call-before}
-use Rattle.session.proofs.Laws.{sample-unchanged, stays-open}
-use Rattle.feed.specs.Line.{refusalText, sampleText}
+use Rattle.sampling.specs.Sample.{sampleCall}
+use Rattle.sampling.specs.Laws.{SampleUnchanged, StaysOpen}
+use Rattle.sampling.proofs.Calls.{call-before}
+use Rattle.sampling.proofs.Laws.{sample-unchanged, stays-open}
+use Rattle.line.specs.Line.{refusalText, sampleText}
 use Rattle.feed.specs.Output.{linesOf}
 use Rattle.feed.specs.Short.{ShortLast}
 

@@ -3,9 +3,9 @@ use mathlib.Core.Path.{_≡_}
 use mathlib.Core.Bool.{false}
 use mathlib.Core.List.{[], _∷_}
 use Rattle.refusal.specs.declared.Refusal.the-variants.{BrokenProfile, NoRoom}
-use Rattle.feed.specs.declared.opening.Part.the-variants.{Bytes, Broken}
-use Rattle.feed.specs.Opening.{profileAhead, targetsAhead}
-use Rattle.feed.specs.Line.{decimal, decisionText, refusalText}
+use Rattle.opening.specs.declared.Part.the-variants.{Bytes, Broken}
+use Rattle.opening.specs.Opening.{profileAhead, targetsAhead}
+use Rattle.line.specs.Line.{decimal, decisionText, refusalText}
 use Rattle.feed.specs.Case.{firstLine, crossed}
 
 pub record Figures : Type 0 where

@@ -1,7 +1,5 @@
--- The session program, as far as it can be stated. `Opening`, `Line` and `Output` are 01's "The session program reads standard input": what opens a feed, the
--- lines that are printed, and the whole output; where a line stands in lent bytes, at the end of `Line`, is said only for contracts. The others are statements.
-pub mod Opening
-pub mod Line
+-- The session program, as far as it can be stated. `Output` is 01's "The session program reads standard input": the whole output of a feed, by what opens
+-- it (crate `opening`) and the lines that are printed (crate `line`). The others are statements.
 pub mod Printed
 pub mod Output
 pub mod Short

@@ -12,11 +12,11 @@ use Rattle.decision.specs.Decision as decision
 use Rattle.session.specs.declared.Session.{Session}
 use Rattle.session.specs.Session.{noneOpen}
 use Rattle.session.specs.Open.{openOf}
-use Rattle.session.specs.Sample.{sampleCall}
-use Rattle.feed.specs.declared.opening.Part.{Part}
-use Rattle.feed.specs.declared.opening.Part.the-variants.{Bytes, Broken}
-use Rattle.feed.specs.Opening.{bytesIn, profileCountSize, targetsCountSize, profileAhead, targetsAhead, profileTaken, targetsTaken}
-use Rattle.feed.specs.Line.{refusalText, sampleText}
+use Rattle.sampling.specs.Sample.{sampleCall}
+use Rattle.opening.specs.declared.Part.{Part}
+use Rattle.opening.specs.declared.Part.the-variants.{Bytes, Broken}
+use Rattle.opening.specs.Opening.{bytesIn, profileCountSize, targetsCountSize, profileAhead, targetsAhead, profileTaken, targetsTaken}
+use Rattle.line.specs.Line.{refusalText, sampleText}
 
 -- ---- "The session program reads standard input": each part takes its bytes from what is left, or as many as there are
 

@@ -6,7 +6,7 @@ use lib.ListN.{take}
 use Rattle.refusal.specs.declared.Verdict.the-variants.{Accepted}
 use Rattle.decision.specs.declared.Decision.{Decision}
 use Rattle.decision.specs.Decision.{size, writeDecision}
-use Rattle.feed.specs.Line.{decisionText, sampleText}
+use Rattle.line.specs.Line.{decisionText, sampleText}
 
 unfoldable pub WrittenIsPrinted : Type 0
 WrittenIsPrinted =

@@ -8,7 +8,7 @@ use Rattle.refusal.specs.declared.Refusal.the-variants.{WrongLength}
 use Rattle.sample.specs.Sample.{size}
 use Rattle.session.specs.declared.Session.{Session}
 use Rattle.session.specs.Session.{isOpen}
-use Rattle.feed.specs.Line.{refusalText}
+use Rattle.line.specs.Line.{refusalText}
 use Rattle.feed.specs.Output.{linesOf}
 
 -- in an open session, which an accepted consist gives, after the lines of any samples, accepted or refused

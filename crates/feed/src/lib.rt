@@ -1,9 +1,6 @@
 // The session program over two descriptors: a feed is read from one, and its lines are written to the other. Nothing is read
 // past what is needed to answer, a line is written as soon as its sample is judged, and a feed of any length runs in the same
 // memory.
-mod line;
-mod opening;
-
 use consist::Consist;
 use decision::Decision;
 use line::ROOM;
@@ -17,10 +14,11 @@ use refusal::Verdict;
 use sample::RawSample;
 use session::Answer;
 use session::Session;
+ghost use mathlib.Core.Path.{_≡_};
 ghost use Prim.Native.Nat.{_≤_};
 ghost use lib.ListN.{length};
 ghost use Rattle.io.specs.Counts.{Counts};
-ghost use Rattle.feed.specs.Opening.{bytesIn, profileRoom, targetsRoom};
+ghost use Rattle.opening.specs.Opening.{bytesIn, profileRoom, targetsRoom};
 
 // The session after a sample, and whether another may follow.
 struct Turn {
@@ -62,6 +60,16 @@ fn read_front(input: i32, size: usize, s: &mut [u8]) -> usize
     io::read_full(input, &mut s[..size])
 }
 
+// How many bytes are to be read of a part: none of one whose count is broken.
+fn bytes_in(part: Part) -> usize
+    ensures { λ r. ⌜ r ≡ bytesIn part ⌝ }
+{
+    match part {
+        Part::Bytes(n) => n,
+        Part::Broken => 0,
+    }
+}
+
 // Reads the count of records, and then the profile to the front of `p`.
 fn read_profile(input: i32, p: &mut [u8]) -> Part
     requires { ⌜ profileRoom ≤ length (now p) ⌝ }
@@ -70,7 +78,7 @@ fn read_profile(input: i32, p: &mut [u8]) -> Part
     let mut count = [0u8; PROFILE_COUNT_SIZE];
     let n = io::read_full(input, &mut count);
     let ahead = opening::profile_ahead(&count[..n]);
-    let came = read_front(input, opening::bytes_in(ahead), p);
+    let came = read_front(input, bytes_in(ahead), p);
     opening::profile_taken(ahead, &p[..came])
 }
 
@@ -82,7 +90,7 @@ fn read_targets(input: i32, t: &mut [u8]) -> Part
     let mut count = [0u8; TARGETS_COUNT_SIZE];
     let n = io::read_full(input, &mut count);
     let ahead = opening::targets_ahead(&count[..n]);
-    let came = read_front(input, opening::bytes_in(ahead), t);
+    let came = read_front(input, bytes_in(ahead), t);
     opening::targets_taken(ahead, &t[..came])
 }
 
@@ -97,7 +105,7 @@ fn answer_one(input: i32, output: i32, x: Session, p: &[u8], t: &[u8]) -> Turn {
         };
     }
     let mut decision = [0u8; Decision::SIZE];
-    let answer = session::sample(x, &sample[..n], p, t, &mut decision);
+    let answer = sampling::sample(x, &sample[..n], p, t, &mut decision);
     let session = answer.session;
     let verdict = answer.verdict;
     let printed = print_sample(output, verdict, &decision);

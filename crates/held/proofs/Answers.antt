@@ -7,6 +7,8 @@ use mathlib.Core.List.{List, [], _∷_, _++_}
 use lib.ListN.{length, getD, drop, length-take, length-drop}
 use lib.Dec.{eqb, ltb}
 use borrow.Author.Tests.{le-ltb, ltb-false, eq-eqb, eqb-true, not-false}
+use Rattle.bits.specs.Fields.{Fit}
+use Rattle.bits.proofs.Bit.{bit-fits}
 use Rattle.bits.proofs.Ranges.{neither}
 use Rattle.refusal.specs.Steps.{kept}
 use Rattle.refusal.specs.Written.{noRoom, written}
@@ -21,12 +23,13 @@ use Rattle.seal.specs.Seal.{sealed, isSealed}
 use Rattle.consist.specs.Consist as consist
 use Rattle.consist.proofs.Answers as consist-answers
 use Rattle.consist.proofs.Sound as consist-sound
+use Rattle.brake.proofs.StateNumbers.{number-most}
 use Rattle.session.specs.declared.Session.{Session}
 use Rattle.session.specs.declared.Answer.{Answer}
 use Rattle.session.specs.Session.{isOpen}
-use Rattle.session.proofs.Admitted.{opened}
+use Rattle.session.proofs.Opened.{opened}
 use Rattle.session.proofs.Told.{answer-one}
-use Rattle.held.specs.Held.{mark, fieldsAt, consistAt, sessionIn, bytesOf, noRecord, noSession, answer, readTold, readRules, readSession, writeRules, writeSession}
+use Rattle.held.specs.Held.{mark, widths, fieldsOf, fieldsAt, consistAt, sessionIn, bytesOf, noRecord, noSession, answer, readTold, readRules, readSession, writeRules, writeSession}
 
 -- what is told of a reading tells it
 pub read-tells : (x y : Verdict × Session) → readTold x ≡ readTold y → x ≡ y
@@ -100,3 +103,11 @@ module _ (x : Session) (out : List ℕ) where
   write-inv h =
       let o = accepted _ _ _ (written-accepted _ (bytesOf x) out h) in
       (not-false (isOpen x) (o .0), ltb-false (length out) 40 (accepted _ _ _ (o .1) .0))
+
+-- ---- an open session's fields fit
+
+pub fits : (x : Session) → isOpen x ≡ true → Fit widths (fieldsOf x)
+fits x h =
+    let o = opened x h in
+    let k = o .brake in
+    omega (arith, number-most (x .brake .state), bit-fits (x .brake .sampled), o .cause, k .a, k .b, k .equalization, k .fall, k .hold, k .front, k .rear, k .time, o .consist .ranged)

@@ -1,5 +1,2 @@
--- Laws of the session's reader and writer.
+-- Laws of the session's record that the code's proofs and others' cite.
 pub mod Answers
-pub mod RoundTrip
-pub mod Damage
-pub mod Figures

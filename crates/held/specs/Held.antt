@@ -71,6 +71,10 @@ fieldsAt s = fieldsFrom 0 widths s
 abbrev pub consistAt : List ℕ → List ℕ
 consistAt s = take consist.size (drop own s)
 
+-- the bytes of the record that others begin with, or all where there are fewer
+abbrev pub recordAt : List ℕ → List ℕ
+recordAt s = take size s
+
 -- the session that bytes stand for, and the bytes of a session
 unfoldable pub sessionIn : List ℕ → Session
 sessionIn s = ofFields (fieldsAt s) (consist.consistIn (consistAt s))

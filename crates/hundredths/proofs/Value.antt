@@ -1,4 +1,4 @@
--- The exact value of an accepted reading, read off its bit pattern. Assumes nothing.
+-- The exact value of a float below 2 ^ 24, read off its bit pattern. Assumes nothing.
 use mathlib.Core.Path.{_≡_, refl, sym, ap, _∙_, subst}
 use mathlib.Core.Bool.{Bool, true, false, cond, true≢false}
 use Prim.Native.Nat.{ℕ, zero, suc, _+_, _-_, _*_, _/_, _%_, _^_, _≤_}
@@ -8,8 +8,8 @@ use lib.Dec.{leb, eqb, lit<}
 use lib.Pow.{pow-add, pow-pos, pow-mono}
 use lib.Ieee.{Float, nan, inf, fin, binary32, isNan, odd, ofFields, ofBits}
 use lib.Ieee.Exact.{HasValue, odd-sign}
-use Rattle.hundredths.specs.IsFraction.{IsFraction}
-use Rattle.hundredths.specs.Reading.{numerator, denominator, isBad, mostPsi}
+use Rattle.hundredths.specs.IsFraction.{IsFraction, mostExact}
+use Rattle.hundredths.specs.Reading.{numerator, denominator, isBad}
 use Rattle.hundredths.proofs.Accepted.{at-most, denominator-pos}
 
 -- the size of x is q * 2 ^ k / 2 ^ 149
@@ -43,8 +43,8 @@ fields-scaled limit s (suc f) t ok = go (eqb (suc f) 255) (eqb t 0) ok
     go true false h = absurd (true≢false h)
     go false none h = odd-scaled s (0x80_0000 + t) f
 
--- b is a pattern of the accepted reading x
-module _ (b : ℕ) {x : Float} (pattern : ofBits binary32 b ≡ x) (ok : isBad mostPsi x ≡ false) where
+-- b is a pattern of x, which is neither below zero nor above `mostExact`
+module _ (b : ℕ) {x : Float} (pattern : ofBits binary32 b ≡ x) (ok : isBad mostExact x ≡ false) where
   abbrev field : ℕ
   field = b % 0x8000_0000 / 0x80_0000
 
@@ -58,21 +58,21 @@ module _ (b : ℕ) {x : Float} (pattern : ofBits binary32 b ≡ x) (ok : isBad m
   unfolding ofBits
   scaled =
       subst (λ (y : Float). Scaled y (wholeOf field tail) (exponentOf field)) pattern
-      (fields-scaled mostPsi (leb 0x8000_0000 b) field tail (subst (λ (y : Float). isBad mostPsi y ≡ false) (sym pattern) ok))
+      (fields-scaled mostExact (leb 0x8000_0000 b) field tail (subst (λ (y : Float). isBad mostExact y ≡ false) (sym pattern) ok))
 
-  -- a field of 135 is 2 ^ 8 or more
-  too-large : (f : ℕ) → 135 ≤ f → By-field f → ⊥
+  -- a field of 151 is 2 ^ 24 or more
+  too-large : (f : ℕ) → 151 ≤ f → By-field f → ⊥
   too-large zero h v = not-le-of-lt (lit< tt) h
   too-large (suc f) h v =
-      not-le-of-lt (lit< {m = mostPsi * 2 ^ 149} {n = 0x80_0000 * 2 ^ 134} tt)
+      not-le-of-lt (lit< {m = mostExact * 2 ^ 149} {n = 0x80_0000 * 2 ^ 150} tt)
       (le-of-mul-le-mul-right
-      (le-trans (mul-le-mul-right (denominator x) (mul-le-mul (le-add-right 0x80_0000 tail) (pow-mono {i = 134} {j = f} (le-of-suc-le-suc h))))
+      (le-trans (mul-le-mul-right (denominator x) (mul-le-mul (le-add-right 0x80_0000 tail) (pow-mono {i = 150} {j = f} (le-of-suc-le-suc h))))
       (le-trans (le-of-eq (sym v))
-      (le-trans (mul-le-mul-right (2 ^ 149) (at-most mostPsi x ok)) (le-of-eq (mul-right-comm mostPsi (denominator x) (2 ^ 149))))))
+      (le-trans (mul-le-mul-right (2 ^ 149) (at-most mostExact x ok)) (le-of-eq (mul-right-comm mostExact (denominator x) (2 ^ 149))))))
       (denominator-pos x))
 
-  pub field-le : field ≤ 134
-  field-le = le-of-suc-le-suc (lt-of-not-le (λ (h : 135 ≤ field). too-large field h scaled))
+  pub field-le : field ≤ 150
+  field-le = le-of-suc-le-suc (lt-of-not-le (λ (h : 151 ≤ field). too-large field h scaled))
 
   -- the exponent taken into the places
   placed : (q k places : ℕ) → places + k ≡ 149 → Scaled x q k → numerator x * 2 ^ places ≡ q * denominator x
@@ -86,6 +86,6 @@ module _ (b : ℕ) {x : Float} (pattern : ofBits binary32 b ≡ x) (ok : isBad m
   pub with-field : (field ≡ 0 → ⊥) → IsFraction x (record { digits = 0x80_0000 + tail; places = 150 - field })
   with-field some = go field some field-le scaled
     where
-      go : (f : ℕ) → (f ≡ 0 → ⊥) → f ≤ 134 → By-field f → IsFraction x (record { digits = 0x80_0000 + tail; places = 150 - f })
+      go : (f : ℕ) → (f ≡ 0 → ⊥) → f ≤ 150 → By-field f → IsFraction x (record { digits = 0x80_0000 + tail; places = 150 - f })
       go zero some le v = absurd (some refl)
       go (suc f) some le v = record { value = placed (0x80_0000 + tail) f (150 - suc f) (omega arith) v; small = omega arith }

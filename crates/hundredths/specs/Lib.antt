@@ -4,5 +4,6 @@
 pub mod Reading
 -- statements
 pub mod Figures
--- for an inner contract: what the code takes a float apart into
+-- for inner contracts: the comparisons that judge a float, and what it is taken apart into
+pub mod InRange
 pub mod IsFraction

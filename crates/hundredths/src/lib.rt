@@ -3,7 +3,8 @@ ghost use mathlib.Core.Path.{_≡_};
 ghost use mathlib.Core.Bool.{false};
 ghost use Prim.Native.Nat.{_/_, _^_};
 ghost use lib.Ieee.{binary32, ofBits, toBits};
-ghost use Rattle.hundredths.specs.IsFraction.{IsFraction};
+ghost use Rattle.hundredths.specs.InRange.{inRange};
+ghost use Rattle.hundredths.specs.IsFraction.{IsFraction, mostExact};
 ghost use Rattle.hundredths.specs.Reading.{rounded, hundredthsOf, isBad, mostPsi, speedOf, pressureOf, readingTold};
 
 const MOST_SPEED: f32 = 100.0;
@@ -59,7 +60,7 @@ pub fn bits_of(x: f32) -> u32
 pub fn speed(x: f32) -> Reading
     ensures { λ r. ⌜ readingTold r ≡ readingTold (speedOf x) ⌝ }
 {
-    if (x >= 0.0) & (x <= MOST_SPEED) {
+    if in_range(x, MOST_SPEED) {
         Reading::Hundredths(hundredths(x, Rounding::Up))
     } else {
         Reading::Refused
@@ -69,11 +70,18 @@ pub fn speed(x: f32) -> Reading
 pub fn pressure(x: f32) -> Reading
     ensures { λ r. ⌜ readingTold r ≡ readingTold (pressureOf x) ⌝ }
 {
-    if (x >= 0.0) & (x <= MOST_PSI) {
+    if in_range(x, MOST_PSI) {
         Reading::Hundredths(hundredths(x, Rounding::Down))
     } else {
         Reading::Refused
     }
+}
+
+// The sign by its bit too: a processor that a host has told to take denormals as zero compares a negative one as zero.
+fn in_range(x: f32, most: f32) -> bool
+    ensures { λ r. ⌜ r ≡ inRange x most ⌝ }
+{
+    (x >= 0.0) & (bits_of(x) <= SIGN) & (x <= most)
 }
 
 // The pressure's limit is the higher of the two.
@@ -87,7 +95,7 @@ fn hundredths(x: f32, rounding: Rounding) -> u16
 
 // The field f counts 2 ^ (f - 150). A field of 0 stands for no leading digit, and counts as 1.
 fn exact(x: f32) -> Fraction
-    requires { ⌜ isBad mostPsi x ≡ false ⌝ }
+    requires { ⌜ isBad mostExact x ≡ false ⌝ }
     ensures { λ r. ⌜ IsFraction x r ⌝ }
 {
     let bits = bits_of(x);

@@ -1,8 +1,8 @@
--- Laws of the cause: it is one of eight, and there is one wherever a test that holds less often has one. Assumes nothing.
-use mathlib.Core.Path.{_≡_, refl}
+-- Laws of the cause: where the first is, and that it is one of eight. Assumes nothing.
+use mathlib.Core.Path.{_≡_}
 use mathlib.Core.Bool.{Bool, true, false, cond}
 use mathlib.Core.List.{List}
-use Prim.Native.Nat.{ℕ, zero, suc, _+_, _≤_, _<_, min}
+use Prim.Native.Nat.{ℕ, zero, suc, _+_, _≤_, min}
 use native.Mathlib.Nat.{le-trans}
 use native.Mathlib.Omega.{arith}
 use Rattle.targets.specs.Targets.{most}
@@ -30,14 +30,3 @@ first-most f k (suc n) = go (f k) (first-most f (suc k) n)
 pub cause-most : (offset head v count : ℕ) (targets speeds arrivals : List ℕ) → causeOf offset head v count targets speeds arrivals ≤ most
 unfolding causeOf
 cause-most offset head v count targets speeds arrivals = le-trans (first-most _ 0 (min count most)) (omega arith)
-
-pub first-some : (f g : ℕ → Bool) → ((k : ℕ) → f k ≡ true → g k ≡ true) → (k n : ℕ) → 0 < firstFrom f k n → 0 < firstFrom g k n
-unfolding firstFrom
-first-some f g h k zero l = l
-first-some f g h k (suc n) l = go (f k) (g k) (h k) (first-some f g h (suc k) n) l
-  where
-    go : (a b : Bool) → (a ≡ true → b ≡ true) → (0 < firstFrom f (suc k) n → 0 < firstFrom g (suc k) n)
-        → 0 < cond a (suc k) (firstFrom f (suc k) n) → 0 < cond b (suc k) (firstFrom g (suc k) n)
-    go a true e ih l = omega arith
-    go false false e ih l = ih l
-    go true false e ih l = absurd (let z = e refl in let y : _≡_ {A = ℕ} 0 1 = cc in omega arith)

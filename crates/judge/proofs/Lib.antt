@@ -2,6 +2,5 @@
 pub mod Offsets
 pub mod Causes
 pub mod Cases
-pub mod Compare
 pub mod Figures
 pub mod Unique

@@ -5,8 +5,8 @@ use Rattle.consist.specs.declared.Consist.{Consist}
 use Rattle.targets.specs.Targets.{most, count, locationsIn, speedsIn}
 use Rattle.track.specs.declared.Track.{Track}
 use Rattle.walk.specs.declared.Prediction.{Prediction}
-use Rattle.walk.specs.Curve.{forceAt, penaltyCurve}
-use Rattle.walk.specs.Step.{Ground, groundOf}
+use Rattle.step.specs.Curve.{forceAt, penaltyCurve}
+use Rattle.step.specs.Step.{Ground, groundOf}
 use Rattle.walk.specs.Walk.{Arrival, arrivalFor, predictOf}
 use Rattle.judge.specs.Judge.{causeOf}
 

@@ -1,5 +1,3 @@
 -- Laws of the profile's judge and writer.
 pub mod Grade
 pub mod Sound
-pub mod RoundTrip
-pub mod Figures

@@ -2,11 +2,14 @@
 use mathlib.Core.Path.{_≡_, refl, sym, ap, ap₂, _∙_}
 use mathlib.Core.Bool.{Bool, true, _&&_, and-assoc}
 use mathlib.Core.List.{List, [], _∷_}
-use Prim.Native.Nat.{ℕ, _/_, _%_, _^_, _≤_}
+use Prim.Native.Nat.{ℕ, _/_, _%_, _^_, _≤_, _<_}
 use native.Mathlib.Omega.{arith}
 use lib.Dec.{leb, eqb}
 use lib.IntN.{ℤ, pos, negsuc, natAbs}
 use lib.ListN.{length}
+use lib.Signed.{mag}
+use mir.Syntax.{w16}
+use mir.Val.{ofZ}
 use borrow.Author.Tests.{leb-true, eqb-true}
 use Rattle.bits.specs.Fields.{split, Fit}
 use Rattle.bits.proofs.Ranges.{and-true-left, and-true-right}
@@ -15,11 +18,10 @@ use Rattle.table.specs.Table as specs
 use Rattle.table.proofs.Records as records
 use Rattle.table.proofs.Records.{Facts}
 use Rattle.table.proofs.Judging as table
-use Rattle.table.proofs.RoundTrip.{written-lawful}
 use Rattle.profile.specs.declared.Segment.{Segment}
-use Rattle.profile.specs.Profile.{fewest, most, widths, fieldsOf, ofFields, spareZero, steepest, sharpest, inRange, ends, segments, counted, count, segmentAt, lawfulIn, judgeProfile, same, writeProfile}
+use Rattle.profile.specs.Profile.{fewest, most, widths, fieldsOf, ofFields, spareZero, steepest, sharpest, inRange, ends, segments, counted, count, segmentAt, lawfulIn, judgeProfile, same}
 use Rattle.profile.specs.Sound.{Ranged, Sound}
-use Rattle.profile.proofs.Grade.{bits-of-grade, grade-of-bits, in-eleven, lowest-bits}
+use Rattle.profile.proofs.Grade.{bits-of-grade, grade-of-bits, in-eleven, lowest-bits, zero-bits}
 
 -- ---- one segment
 
@@ -57,6 +59,11 @@ ends-zero g h =
     let b = eqb (g .curvature) 0 in
     (zero-grade (g .grade) (eqb-true _ 0 (and-true-left a b h)), eqb-true _ 0 (and-true-right a b h))
 
+-- the test of the code, which has a grade's bits
+pub ends-is : (g : Segment) → mag (g .grade) < 2 ^ 15 → eqb (ofZ w16 (g .grade)) 0 && eqb (g .curvature) 0 ≡ ends g
+unfolding ends
+ends-is g h = ap (λ (b : Bool). b && eqb (g .curvature) 0) (zero-bits (g .grade) h)
+
 -- ---- how many
 
 pub counted-is : (whole : Bool) (n : ℕ) → whole && leb fewest n && leb n most ≡ whole && counted n
@@ -89,8 +96,3 @@ module _ (p : List ℕ) where
         let s = table.judged-sound segments p n h in
         let last = ends-zero _ (table.closed-last segments n (segmentAt p) (omega (arith, s .fewest)) ∙ s .last) in
         record { fewest = s .fewest; most = s .most; each = λ k l. ranged (segmentAt p k) (s .each k l); rising = s .rising; last-grade = last .0; last-curvature = last .1 }
-
-pub written-lengths : (starts : List ℕ) (grades : List ℤ) (curvatures out : List ℕ) → writeProfile starts grades curvatures out .0 ≡ Accepted
-    → (length grades ≡ length starts) × (length curvatures ≡ length starts)
-written-lengths starts grades curvatures out h =
-    lengths starts grades curvatures (and-true-left (same starts grades curvatures) _ (written-lawful segments _ _ _ out h .0))

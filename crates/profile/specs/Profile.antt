@@ -5,6 +5,7 @@ use mathlib.Core.Bool.{Bool, _&&_}
 use lib.ListN.{length, getD}
 use lib.Dec.{leb, eqb}
 use lib.IntN.{ℤ, pos, natAbs}
+use Rattle.bits.specs.Tables.{upTo}
 use Rattle.record.specs.Location.{farthest}
 use Rattle.refusal.specs.Lowest.{Rule}
 use Rattle.refusal.specs.declared.Refusal.the-variants.{BrokenProfile}
@@ -86,6 +87,16 @@ count = table.count segments
 
 abbrev pub segmentAt : List ℕ → ℕ → Segment
 segmentAt = table.recordAt segments
+
+-- the starts, the grades and the curvatures of the first n
+abbrev pub startsIn : List ℕ → ℕ → List ℕ
+startsIn p n = upTo n (λ k. segmentAt p k .start)
+
+abbrev pub gradesIn : List ℕ → ℕ → List ℤ
+gradesIn p n = upTo n (λ k. segmentAt p k .grade)
+
+abbrev pub curvaturesIn : List ℕ → ℕ → List ℕ
+curvaturesIn p n = upTo n (λ k. segmentAt p k .curvature)
 
 abbrev pub spareZeroAt : List ℕ → ℕ → Bool
 spareZeroAt = table.cleanAt segments

@@ -11,7 +11,7 @@ ghost use lib.Dec.{eqb, ltb};
 ghost use Rattle.bits.specs.Places.{putFrom};
 ghost use Rattle.refusal.specs.Number.{told};
 ghost use Rattle.profile.specs.Grade.{gradeOf, gradeBits};
-ghost use Rattle.profile.specs.Profile.{widths, fieldsOf, inRange, ends, segmentAt, spareZeroAt, broken, judgeProfile, segmentOf, lawfulOf, writeProfile};
+ghost use Rattle.profile.specs.Profile.{widths, fieldsOf, inRange, segmentAt, lawfulIn, judgeProfile, segmentOf, lawfulOf, writeProfile};
 
 // The track from a record's start to the next one's.
 pub struct Segment {
@@ -69,13 +69,6 @@ pub fn segment_at(p: &[u8], k: usize) -> Segment
     }
 }
 
-// Whether the spare bits of record k are zero.
-fn spare_zero(p: &[u8], k: usize) -> bool
-    ensures { λ r. ⌜ r ≡ spareZeroAt (now (p .entry)) k ⌝ }
-{
-    bits::field(table::record(p, Segment::SIZE, k), 46, 2) == 0
-}
-
 // Whether a segment may be record k, after one that starts at `before`: it is in range, and starts above that.
 fn good_after(g: Segment, k: usize, before: u32) -> bool
     ensures { λ r. ⌜ r ≡ (inRange g && (eqb k 0 || ltb before (g .start))) ⌝ }
@@ -87,44 +80,39 @@ fn good_after(g: Segment, k: usize, before: u32) -> bool
         & ((k == 0) | (before < g.start))
 }
 
-// Whether a segment only ends the profile.
-fn only_ends(g: Segment) -> bool
-    ensures { λ r. ⌜ r ≡ ends g ⌝ }
-{
-    (g.grade == 0) & (g.curvature == 0)
-}
-
-fn refused() -> Judged
-    ensures { λ r. ⌜ (r .verdict, r .records) ≡ broken ⌝ }
-{
-    Judged {
-        verdict: Verdict::Refused(Refusal::BrokenProfile),
-        records: 0,
-    }
-}
-
-pub fn judge(p: &[u8]) -> Judged
-    ensures { λ r. ⌜ told (r .verdict, r .records) ≡ told (judgeProfile (now (p .entry))) ⌝ }
+// Whether bytes keep every rule of a profile.
+fn bytes_keep(p: &[u8]) -> bool
+    ensures { λ r. ⌜ r ≡ lawfulIn (now (p .entry)) ⌝ }
 {
     let n = p.len() / Segment::SIZE;
-    let whole = p.len() % Segment::SIZE == 0;
-    let Step::On = refusal::unless(!(whole & (Segment::FEWEST <= n) & (n <= Segment::MOST))) else {
-        return refused();
-    };
+    if !((p.len() % Segment::SIZE == 0) & (Segment::FEWEST <= n) & (n <= Segment::MOST)) {
+        return false;
+    }
     let last = n - 1;
     let mut good = true;
     let mut before: u32 = 0;
     for k in 0..n {
         let g = segment_at(p, k);
-        good = good & (spare_zero(p, k) & good_after(g, k, before));
+        let spare_zero = bits::field(table::record(p, Segment::SIZE, k), 46, 2) == 0;
+        good = good & (spare_zero & good_after(g, k, before));
         before = g.start;
     }
-    let Step::On = refusal::unless(!(good & only_ends(segment_at(p, last)))) else {
-        return refused();
+    let end = segment_at(p, last);
+    good & ((end.grade == 0) & (end.curvature == 0))
+}
+
+pub fn judge(p: &[u8]) -> Judged
+    ensures { λ r. ⌜ told (r .verdict, r .records) ≡ told (judgeProfile (now (p .entry))) ⌝ }
+{
+    let Step::On = refusal::unless(!bytes_keep(p)) else {
+        return Judged {
+            verdict: Verdict::Refused(Refusal::BrokenProfile),
+            records: 0,
+        };
     };
     Judged {
         verdict: Verdict::Accepted,
-        records: n,
+        records: p.len() / Segment::SIZE,
     }
 }
 
@@ -159,7 +147,8 @@ fn rows_keep(starts: &[u32], grades: &[i16], curvatures: &[u16]) -> bool
         good = good & good_after(g, k, before);
         before = g.start;
     }
-    good & only_ends(row_at(starts, grades, curvatures, last))
+    let end = row_at(starts, grades, curvatures, last);
+    good & ((end.grade == 0) & (end.curvature == 0))
 }
 
 // The eleven bits of a grade.

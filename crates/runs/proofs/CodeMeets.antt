@@ -27,18 +27,18 @@ use Rattle.session.specs.declared.Session.{Session}
 use Rattle.session.specs.declared.Answer.{Answer}
 use Rattle.session.specs.Session.{noneOpen, Told}
 use Rattle.session.specs.Open.{openOf}
-use Rattle.session.specs.Sample.{sampleCall}
-use Rattle.session.specs.Laws.{Lent}
+use Rattle.sampling.specs.Sample.{sampleCall}
+use Rattle.sampling.specs.Laws.{Lent}
 use Rattle.session.proofs.Session as session-type
 use Rattle.session.proofs.Session.Laws as session-value
 use Rattle.session.proofs.Answer as answer-type
 use Rattle.session.proofs.Answer.Laws as answer-value
 use Rattle.session.proofs.none.Symbol as session-none
 use Rattle.session.proofs.open.Symbol as session-open
-use Rattle.session.proofs.sample.Symbol as session-sample
-use Rattle.mount.specs.Mount.{Sampled, openBytes, sampleBytes}
-use Rattle.mount.proofs.buongilach_open.Symbol as buongilach-open
-use Rattle.mount.proofs.buongilach_sample.Symbol as buongilach-sample
+use Rattle.sampling.proofs.sample.Symbol as session-sample
+use Rattle.lent.specs.Lent.{Sampled, openBytes, sampleBytes}
+use Rattle.buongilach.proofs.buongilach_open.Symbol as buongilach-open
+use Rattle.buongilach.proofs.buongilach_sample.Symbol as buongilach-sample
 use Rattle.demands.specs.Machine.{Slice, Lends, sampling}
 use Rattle.demands.specs.Library as library
 use Rattle.demands.specs.Program.{FitsWords}

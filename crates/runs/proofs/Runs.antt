@@ -25,7 +25,7 @@ use Rattle.session.specs.declared.Answer.{Answer}
 use Rattle.session.specs.declared.Session.{Session}
 use Rattle.session.specs.Session.{noneOpen}
 use Rattle.session.specs.Open.{openOf}
-use Rattle.session.specs.Sample.{sampleCall}
+use Rattle.sampling.specs.Sample.{sampleCall}
 use Rattle.session.proofs.Told.{session-one, answer-one, call-one}
 use Rattle.session.proofs.Session as session-type
 use Rattle.session.proofs.Session.Laws as session-laws
@@ -38,19 +38,19 @@ use Rattle.session.proofs.open as session-open
 use Rattle.session.proofs.open.Met as open-met
 use Rattle.session.proofs.open.Symbol as open-code
 use Rattle.session.proofs.open.Reads as open-reads
-use Rattle.session.proofs.sample as session-sample
-use Rattle.session.proofs.sample.Met as sample-met
-use Rattle.session.proofs.sample.Symbol as sample-code
-use Rattle.session.proofs.sample.Reads as sample-reads
-use Rattle.mount.specs.Mount.{Sampled, openBytes, sampleBytes}
-use Rattle.mount.proofs.buongilach_open as buongilach-open
-use Rattle.mount.proofs.buongilach_open.Met as buongilach-open-met
-use Rattle.mount.proofs.buongilach_open.Symbol as buongilach-open-code
-use Rattle.mount.proofs.buongilach_open.Reads as buongilach-open-reads
-use Rattle.mount.proofs.buongilach_sample as buongilach-sample
-use Rattle.mount.proofs.buongilach_sample.Met as buongilach-sample-met
-use Rattle.mount.proofs.buongilach_sample.Symbol as buongilach-sample-code
-use Rattle.mount.proofs.buongilach_sample.Reads as buongilach-sample-reads
+use Rattle.sampling.proofs.sample as session-sample
+use Rattle.sampling.proofs.sample.Met as sample-met
+use Rattle.sampling.proofs.sample.Symbol as sample-code
+use Rattle.sampling.proofs.sample.Reads as sample-reads
+use Rattle.lent.specs.Lent.{Sampled, openBytes, sampleBytes}
+use Rattle.buongilach.proofs.buongilach_open as buongilach-open
+use Rattle.buongilach.proofs.buongilach_open.Met as buongilach-open-met
+use Rattle.buongilach.proofs.buongilach_open.Symbol as buongilach-open-code
+use Rattle.buongilach.proofs.buongilach_open.Reads as buongilach-open-reads
+use Rattle.buongilach.proofs.buongilach_sample as buongilach-sample
+use Rattle.buongilach.proofs.buongilach_sample.Met as buongilach-sample-met
+use Rattle.buongilach.proofs.buongilach_sample.Symbol as buongilach-sample-code
+use Rattle.buongilach.proofs.buongilach_sample.Reads as buongilach-sample-reads
 use Rattle.runs.specs.Runs.{Buffer, size, passed, with, Short, lie, Answers, Runs}
 use Rattle.runs.proofs.SessionValue.{session-fits}
 use Rattle.runs.proofs.LentAnswers.{Defined, AnswersLent, answers-lent}

@@ -22,15 +22,15 @@ use Rattle.bits.specs.Bytes.{Bytes}
 use Rattle.session.specs.declared.Session.{Session}
 use Rattle.session.specs.Session.{noneOpen}
 use Rattle.session.specs.Open.{openOf}
-use Rattle.session.specs.Sample.{sampleCall}
+use Rattle.sampling.specs.Sample.{sampleCall}
 use Rattle.session.proofs.Session as session-type
 use Rattle.session.proofs.Answer as answer-type
 use Rattle.session.proofs.none.Symbol as session-none
 use Rattle.session.proofs.open.Symbol as session-open
-use Rattle.session.proofs.sample.Symbol as session-sample
-use Rattle.mount.specs.Mount.{openBytes, sampleBytes}
-use Rattle.mount.proofs.buongilach_open.Symbol as buongilach-open
-use Rattle.mount.proofs.buongilach_sample.Symbol as buongilach-sample
+use Rattle.sampling.proofs.sample.Symbol as session-sample
+use Rattle.lent.specs.Lent.{openBytes, sampleBytes}
+use Rattle.buongilach.proofs.buongilach_open.Symbol as buongilach-open
+use Rattle.buongilach.proofs.buongilach_sample.Symbol as buongilach-sample
 use Rattle.demands.specs.Program.{FitsWords}
 
 -- bytes, and where in memory they lie; a slice of them is passed as a pointer and their number

@@ -1,6 +1,4 @@
 -- Laws of the sample's reader, judge and writer.
 pub mod Told
 pub mod Answers
-pub mod RoundTrip
 pub mod Bounds
-pub mod Figures

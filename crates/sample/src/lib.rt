@@ -4,11 +4,10 @@ use refusal::Refusal;
 use refusal::Step;
 use refusal::Verdict;
 ghost use mathlib.Core.Path.{_≡_};
-ghost use mathlib.Core.List.{[], _∷_};
 ghost use Rattle.bits.specs.Fields.{Fit};
 ghost use Rattle.bits.specs.Places.{fieldsFrom, putFrom};
 ghost use Rattle.refusal.specs.Number.{told};
-ghost use Rattle.sample.specs.Sample.{leadWidths, readingWidths, widths, presentBit, rearBits, leadOf, readingsOf, fieldsOf, rearOf, ofFields, wrongMark, refusedWith, answerTold, layOut, readSample, badJudged, judgedTold, judgeSample, writeSample};
+ghost use Rattle.sample.specs.Sample.{readingWidths, widths, presentBit, rearBits, readingsOf, fieldsOf, rearOf, ofFields, wrongMark, refusedWith, answerTold, layOut, readSample, badJudged, judgedTold, judgeSample, writeSample};
 
 pub enum Rear {
     // psi
@@ -55,6 +54,11 @@ pub struct Sample {
     pub speed: u16,
     pub front: u16,
     pub rear: RearPressure,
+}
+
+struct RearFields {
+    present: u64,
+    bits: u32,
 }
 
 // What judging the readings answers; where one is refused, the sample is all zero and its rear lost.
@@ -187,8 +191,7 @@ pub fn read(s: &[u8]) -> Answer
     let Verdict::Accepted = verdict else {
         return laid;
     };
-    let raw = laid.raw;
-    let judged = judge(raw);
+    let judged = judge(laid.raw);
     let verdict = judged.verdict;
     let Verdict::Accepted = verdict else {
         return refused(Refusal::BadReading);
@@ -196,53 +199,42 @@ pub fn read(s: &[u8]) -> Answer
     laid
 }
 
-fn present_bit(rear: Rear) -> u64
-    ensures { λ r. ⌜ r ≡ presentBit rear ⌝ }
+// A rear as it is written: whether it is present, and the bits of its reading.
+fn rear_fields(rear: Rear) -> RearFields
+    ensures { λ r. ⌜ (r .present ≡ presentBit rear) × (r .bits ≡ rearBits rear) ⌝ }
 {
     match rear {
-        Rear::Present(_) => 1,
-        Rear::Lost => 0,
+        Rear::Present(x) => RearFields {
+            present: 1,
+            bits: hundredths::bits_of(x),
+        },
+        Rear::Lost => RearFields {
+            present: 0,
+            bits: 0,
+        },
     }
-}
-
-fn rear_bits(rear: Rear) -> u32
-    ensures { λ r. ⌜ r ≡ rearBits rear ⌝ }
-{
-    match rear {
-        Rear::Present(x) => hundredths::bits_of(x),
-        Rear::Lost => 0,
-    }
-}
-
-// The record's first 64 bits: what stands before the readings.
-fn put_lead(time: u32, present: u64, head: u32, out: &mut [u8])
-    ensures { λ _. ⌜ now (out .exit) ≡ putFrom 0 leadWidths (leadOf time present head) (now (out .entry)) ⌝ }
-{
-    let widths = [8, 24, 1, 7, 24];
-    let values = [RawSample::MARK, time as u64, present, 0, head as u64];
-    bits::put_fields(out, 0, &widths, &values);
-}
-
-// The last 96: the bits of the readings.
-fn put_readings(speed: u32, front: u32, rear: u32, out: &mut [u8])
-    ensures { λ _. ⌜ now (out .exit) ≡ putFrom 64 readingWidths (speed ∷ front ∷ rear ∷ []) (now (out .entry)) ⌝ }
-{
-    let widths = [32, 32, 32];
-    let values = [speed as u64, front as u64, rear as u64];
-    bits::put_fields(out, 64, &widths, &values);
 }
 
 // Puts the fields in their places; the readings' bits fit their 32.
 fn put(raw: RawSample, out: &mut [u8])
     ensures { λ _. ⌜ (now (out .exit) ≡ putFrom 0 widths (fieldsOf raw) (now (out .entry))) × Fit readingWidths (readingsOf raw) ⌝ }
 {
-    let rear = raw.rear;
-    let present = present_bit(rear);
     let speed = hundredths::bits_of(raw.speed);
     let front = hundredths::bits_of(raw.front);
-    let rear = rear_bits(rear);
-    put_lead(raw.time, present, raw.head, out);
-    put_readings(speed, front, rear, out);
+    let rear = raw.rear;
+    let rear = rear_fields(rear);
+    let widths = [8, 24, 1, 7, 24, 32, 32, 32];
+    let values = [
+        RawSample::MARK,
+        raw.time as u64,
+        rear.present,
+        0,
+        raw.head as u64,
+        speed as u64,
+        front as u64,
+        rear.bits as u64,
+    ];
+    bits::put_fields(out, 0, &widths, &values);
 }
 
 // Writes the record to the first 20 bytes of `out`.

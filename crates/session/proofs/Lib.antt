@@ -1,8 +1,3 @@
 -- Laws of the session.
 pub mod Told
-pub mod Rules
-pub mod Accepted
-pub mod Admitted
-pub mod Calls
-pub mod Laws
-pub mod Computing
+pub mod Opened

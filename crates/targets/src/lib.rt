@@ -9,7 +9,7 @@ ghost use lib.ListN.{length};
 ghost use lib.Dec.{eqb, ltb};
 ghost use Rattle.bits.specs.Places.{putFrom};
 ghost use Rattle.refusal.specs.Number.{told};
-ghost use Rattle.targets.specs.Targets.{widths, fieldsOf, inRange, targetAt, broken, judgeTargets, targetOf, lawfulOf, writeTargets};
+ghost use Rattle.targets.specs.Targets.{widths, fieldsOf, inRange, targetAt, lawfulIn, judgeTargets, targetOf, lawfulOf, writeTargets};
 
 pub struct Target {
     // feet
@@ -54,22 +54,14 @@ fn good_after(g: Target, k: usize, before: u32) -> bool
         & ((k == 0) | (before < g.location))
 }
 
-fn refused() -> Judged
-    ensures { λ r. ⌜ (r .verdict, r .records) ≡ broken ⌝ }
-{
-    Judged {
-        verdict: Verdict::Refused(Refusal::BrokenTargets),
-        records: 0,
-    }
-}
-
-pub fn judge(t: &[u8]) -> Judged
-    ensures { λ r. ⌜ told (r .verdict, r .records) ≡ told (judgeTargets (now (t .entry))) ⌝ }
+// Whether bytes keep every rule of the targets.
+fn bytes_keep(t: &[u8]) -> bool
+    ensures { λ r. ⌜ r ≡ lawfulIn (now (t .entry)) ⌝ }
 {
     let n = t.len() / Target::SIZE;
-    let Step::On = refusal::unless(!((t.len() % Target::SIZE == 0) & (n <= Target::MOST))) else {
-        return refused();
-    };
+    if !((t.len() % Target::SIZE == 0) & (n <= Target::MOST)) {
+        return false;
+    }
     let mut good = true;
     let mut before: u32 = 0;
     for k in 0..n {
@@ -77,12 +69,21 @@ pub fn judge(t: &[u8]) -> Judged
         good = good & good_after(g, k, before);
         before = g.location;
     }
-    let Step::On = refusal::unless(!good) else {
-        return refused();
+    good
+}
+
+pub fn judge(t: &[u8]) -> Judged
+    ensures { λ r. ⌜ told (r .verdict, r .records) ≡ told (judgeTargets (now (t .entry))) ⌝ }
+{
+    let Step::On = refusal::unless(!bytes_keep(t)) else {
+        return Judged {
+            verdict: Verdict::Refused(Refusal::BrokenTargets),
+            records: 0,
+        };
     };
     Judged {
         verdict: Verdict::Accepted,
-        records: n,
+        records: t.len() / Target::SIZE,
     }
 }
 

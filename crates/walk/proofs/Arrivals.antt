@@ -15,13 +15,13 @@ use Rattle.whole.proofs.Roots.{root-pos}
 use Rattle.record.specs.Location.{farthest, noStop}
 use Rattle.consist.specs.declared.Consist.{Consist}
 use Rattle.targets.specs.Targets.{most}
-use Rattle.walk.specs.declared.Run.{Run}
-use Rattle.walk.specs.Step.{Ground, stepOf}
+use Rattle.step.specs.declared.Run.{Run}
+use Rattle.step.specs.Step.{stepsMost, squareMost, Ground, stepOf}
 use Rattle.walk.specs.Walk.{Arrival, at, never, fast, walkTo, start, arrivalFor, locationOf, isFast, predictOf}
-use Rattle.walk.specs.Range.{timeMost}
+use Rattle.step.specs.Range.{timeMost}
 use Rattle.walk.specs.Marks.{markOf, Marked, Open, predictionWith}
 use Rattle.walk.proofs.Equations.{walk-fast, walk-at, walk-never, walk-on}
-use Rattle.walk.proofs.Bounds.{time-most}
+use Rattle.step.proofs.Bounds.{time-most}
 
 -- ---- one target speed u, whose location is l
 
@@ -39,14 +39,14 @@ FoundOrLater u l q arrival later = ((eqb arrival noStop ≡ false) × (arrival �
 
 module _ {c : Consist} {force : ℕ → ℕ} {ground : Ground} {u l n : ℕ} {r : Run} {arrival : ℕ} (sought : Sought c force ground u l n r arrival) where
   -- a walk that is too fast finds no more
-  found-fast : 1000000000 < r .q → arrival ≡ l
+  found-fast : squareMost < r .q → arrival ≡ l
   found-fast h = go (eqb arrival noStop) refl (sought .is)
     where
       go : (b : Bool) → eqb arrival noStop ≡ b → l ≡ cond b (toCome c force ground u n r) arrival → arrival ≡ l
       go true e k = eqb-true arrival noStop e ∙ sym (k ∙ ap locationOf (walk-fast c force ground (u * u) r n h))
       go false e k = sym k
 
-  module _ (slow : r .q ≤ 1000000000) (near : r .head < noStop) where
+  module _ (slow : r .q ≤ squareMost) (near : r .head < noStop) where
     found-or-later : FoundOrLater u l (r .q) (markOf r u arrival) (toCome c force ground u n r)
     unfolding markOf
     found-or-later = go (eqb arrival noStop) (leb (r .q) (u * u)) refl refl (sought .is)
@@ -80,13 +80,13 @@ module _ {c : Consist} {force : ℕ → ℕ} {ground : Ground} {u l n : ℕ} {r 
 
 -- n steps of a walk from `head` at the speed v have brought it to r
 pub record Walked (c : Consist) (force : ℕ → ℕ) (ground : Ground) (head v : ℕ) (speeds : List ℕ) (n : ℕ) (r : Run) (arrivals : List ℕ) : Type 0 where
-  pub steps : n ≤ 2048
+  pub steps : n ≤ stepsMost
   pub head-is : r .head ≡ head + 16 * n
   pub clock-most : r .clock ≤ n * timeMost
   pub size : length arrivals ≡ most
-  pub stop : arrivalFor c force ground head v 0 ≡ walkTo c force ground 0 (2048 - n) r
+  pub stop : arrivalFor c force ground head v 0 ≡ walkTo c force ground 0 (stepsMost - n) r
   pub each : (i : ℕ) → i < most →
-      let u = getD speeds i 0 in Sought c force ground u (locationOf (arrivalFor c force ground head v u)) (2048 - n) r (getD arrivals i 0)
+      let u = getD speeds i 0 in Sought c force ground u (locationOf (arrivalFor c force ground head v u)) (stepsMost - n) r (getD arrivals i 0)
 
 pub walk-begins : (c : Consist) (force : ℕ → ℕ) (ground : Ground) (head v : ℕ) (speeds : List ℕ)
     → Walked c force ground head v speeds 0 (start head v) (replicate most noStop)
@@ -132,34 +132,34 @@ module _ {c : Consist} {force : ℕ → ℕ} {ground : Ground} {head v : ℕ} {s
       ap₂ (λ (q : Arrival) (qs : List ℕ). predictionWith (isFast q) (locationOf q) qs) (sym e)
       (mapped (λ (u : ℕ). locationOf (arrivalFor c force ground head v u)) speeds ps (size ∙ sym eight) (λ i k. h i (omega arith)))
 
-  pub answer-fast : 1000000000 < r .q → Answers fast arrivals
-  answer-fast h = answer fast arrivals (w .size) (w .stop ∙ walk-fast c force ground 0 r (2048 - n) h) (λ i k. found-fast (w .each i k) h)
+  pub answer-fast : squareMost < r .q → Answers fast arrivals
+  answer-fast h = answer fast arrivals (w .size) (w .stop ∙ walk-fast c force ground 0 r (stepsMost - n) h) (λ i k. found-fast (w .each i k) h)
 
-  module _ {now : List ℕ} (marked : Marked r speeds arrivals now) (slow : r .q ≤ 1000000000) (near : head ≤ farthest) where
+  module _ {now : List ℕ} (marked : Marked r speeds arrivals now) (slow : r .q ≤ squareMost) (near : head ≤ farthest) where
     near-stop : r .head < noStop
     near-stop = omega arith
 
     pub answer-stop : r .q ≡ 0 → Answers (at (r .head)) now
     answer-stop h =
-        answer (at (r .head)) now (marked .size) (w .stop ∙ walk-at c force ground 0 r (2048 - n) slow (omega arith))
+        answer (at (r .head)) now (marked .size) (w .stop ∙ walk-at c force ground 0 r (stepsMost - n) slow (omega arith))
         (λ i k. marked .each i k ∙ found-stop (w .each i k) slow near-stop h)
 
-    pub answer-never : 0 < r .q → n ≡ 2048 → Answers never now
+    pub answer-never : 0 < r .q → n ≡ stepsMost → Answers never now
     answer-never h e =
-        let z : 2048 - n ≡ 0 = omega arith in
+        let z : stepsMost - n ≡ 0 = omega arith in
         answer never now (marked .size)
         (w .stop ∙ ap (λ (k : ℕ). walkTo c force ground 0 k r) z ∙ walk-never c force ground 0 r slow h)
         (λ i k. marked .each i k ∙ found-last (w .each i k) slow near-stop z)
 
-    pub walks-on : 0 < r .q → n < 2048 → Walked c force ground head v speeds (n + 1) (stepOf c force ground r) now
+    pub walks-on : 0 < r .q → n < stepsMost → Walked c force ground head v speeds (n + 1) (stepOf c force ground r) now
     unfolding stepOf
     walks-on h l =
-        let e : 2048 - n ≡ suc (2048 - (n + 1)) = omega arith in
+        let e : stepsMost - n ≡ suc (stepsMost - (n + 1)) = omega arith in
         record {
           steps = omega arith;
           head-is = omega arith;
           clock-most = omega (arith, time-most (rootOf (r .q)) (root-pos (r .q) h));
           size = marked .size;
-          stop = w .stop ∙ ap (λ (k : ℕ). walkTo c force ground 0 k r) e ∙ walk-on c force ground 0 r (2048 - (n + 1)) slow h;
-          each = λ i k. rw (marked .each i k) (sought-on (w .each i k) slow near-stop (2048 - (n + 1)) e);
+          stop = w .stop ∙ ap (λ (k : ℕ). walkTo c force ground 0 k r) e ∙ walk-on c force ground 0 r (stepsMost - (n + 1)) slow h;
+          each = λ i k. rw (marked .each i k) (sought-on (w .each i k) slow near-stop (stepsMost - (n + 1)) e);
         }

@@ -1,17 +1,14 @@
--- How far a walk reaches: no further than its steps go, and not at all where the train is slow enough; and so the order of location numbers.
--- Assumes nothing.
+-- How far a walk reaches: no further than its steps go, and not at all where the train is slow enough. Assumes nothing.
 use mathlib.Core.Path.{_≡_}
 use mathlib.Core.Bool.{Bool, true, false}
 use Prim.Native.Nat.{ℕ, zero, suc, _+_, _*_, _≤_}
-use native.Mathlib.Nat.{le-refl, mul-le-mul}
+use native.Mathlib.Nat.{mul-le-mul}
 use native.Mathlib.Omega.{arith}
 use lib.Dec.{leb}
-use Rattle.record.specs.Location.{noStop}
 use Rattle.consist.specs.declared.Consist.{Consist}
-use Rattle.walk.specs.declared.Run.{Run}
-use Rattle.walk.specs.Step.{Ground, stepOf}
-use Rattle.walk.specs.Walk.{reach, Arrival, at, never, fast, tooFast, arrivalBy, walkTo, start, arrivalFor, locationOf}
-use Rattle.walk.specs.Compare.{NotShort}
+use Rattle.step.specs.declared.Run.{Run}
+use Rattle.step.specs.Step.{stepsMost, squareMost, Ground, stepOf}
+use Rattle.walk.specs.Walk.{reach, Arrival, at, never, fast, tooFast, arrivalBy, walkTo, start, arrivalFor}
 use Rattle.walk.proofs.Equations.{walk-at}
 
 -- a location, where there is one, is at most m
@@ -34,21 +31,9 @@ module _ (c : Consist) (force : ℕ → ℕ) (ground : Ground) where
 
   pub arrival-no-further : (head v u m : ℕ) → head + reach ≤ m → NoFurther m (arrivalFor c force ground head v u)
   unfolding arrivalFor
-  arrival-no-further head v u m h = walk-no-further (u * u) m 2048 (start head v) h
+  arrival-no-further head v u m h = walk-no-further (u * u) m stepsMost (start head v) h
 
   -- a train that is no faster than u is there at once
-  pub arrival-at-head : (head v u : ℕ) → v * v ≤ 1000000000 → v ≤ u → arrivalFor c force ground head v u ≡ at head
+  pub arrival-at-head : (head v u : ℕ) → v * v ≤ squareMost → v ≤ u → arrivalFor c force ground head v u ≡ at head
   unfolding arrivalFor
-  arrival-at-head head v u slow h = walk-at c force ground (u * u) (start head v) 2048 slow (mul-le-mul h h)
-
--- the order of arrivals is that of their numbers
-pub location-order : (x y : Arrival) → NotShort x y → NoFurther noStop y → locationOf y ≤ locationOf x
-location-order fast (at y) h w = w
-location-order fast never h w = le-refl _
-location-order fast fast h w = le-refl _
-location-order never (at y) h w = w
-location-order never never h w = le-refl _
-location-order never fast h w = absurd h
-location-order (at x) (at y) h w = h
-location-order (at x) never h w = absurd h
-location-order (at x) fast h w = absurd h
+  arrival-at-head head v u slow h = walk-at c force ground (u * u) (start head v) stepsMost slow (mul-le-mul h h)

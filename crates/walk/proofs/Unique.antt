@@ -1,15 +1,7 @@
 -- No second answer satisfies a contract, as the check reads it from the source. Assumes nothing.
 use mathlib.Core.Path.{_≡_, sym, _∙_}
 use contract.Lifetimes.{Lfts}
-use Rattle.walk.proofs.Curve.penalty.Reads as penalty
-use Rattle.walk.proofs.Curve.force.Reads as force
 use Rattle.walk.proofs.predict.Reads as predict
-
-pub penalty-one : (κs : Lfts 0) (a : _) (r₁ r₂ : _) (x : _) → penalty.Post κs a r₁ x → penalty.Post κs a r₂ x → r₁ ≡ r₂
-penalty-one κs a r₁ r₂ x p q = p ∙ sym q
-
-pub force-one : (κs : Lfts 0) (a : _) (r₁ r₂ : _) (x : _) → force.Post κs a r₁ x → force.Post κs a r₂ x → r₁ ≡ r₂
-force-one κs a r₁ r₂ x p q = p ∙ sym q
 
 pub predict-one : (κs : Lfts 0) (a : _) (r₁ r₂ : _) (x : _) → predict.Post κs a r₁ x → predict.Post κs a r₂ x → r₁ ≡ r₂
 predict-one κs a r₁ r₂ x p q = p ∙ sym q

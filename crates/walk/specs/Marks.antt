@@ -7,10 +7,8 @@ use lib.Dec.{leb, eqb}
 use lib.ListN.{length, getD}
 use Rattle.record.specs.Location.{noStop}
 use Rattle.targets.specs.Targets.{most}
-use Rattle.track.specs.declared.Under.{Under}
-use Rattle.walk.specs.declared.Run.{Run}
+use Rattle.step.specs.declared.Run.{Run}
 use Rattle.walk.specs.declared.Prediction.{Prediction}
-use Rattle.walk.specs.Step.{Ground}
 
 -- the arrival for the speed u as the run comes by: open, `noStop`, until the run is slow enough, and from then on its head there
 unfoldable pub markOf : Run → ℕ → ℕ → ℕ
@@ -26,7 +24,3 @@ pub record Open (speeds arrivals : List ℕ) (next : ℕ) : Type 0 where
 
 abbrev pub predictionWith : Bool → ℕ → List ℕ → Prediction
 predictionWith fast stop arrivals = record { fast = fast; stop = stop; arrivals = arrivals }
-
--- the ground that has these averages wherever the head is
-abbrev pub even : Under → Ground
-even u = record { grade = λ h. u .grade; curvature = λ h. u .curvature }

@@ -1,55 +1,13 @@
--- The ranges in which every number of a walk fits its word. Definitions only.
-use Prim.Native.Nat.{ℕ, _+_, _*_, _≤_, _<_}
-use lib.IntN.{natAbs}
+-- What `predict` asks for. A definition only.
+use Prim.Native.Nat.{ℕ, _≤_}
 use Rattle.record.specs.Location.{farthest}
 use Rattle.consist.specs.declared.Consist.{Consist}
 use Rattle.track.specs.declared.Track.{Track}
-use Rattle.track.specs.declared.Under.{Under}
 use Rattle.track.specs.Gentle.{Gentle}
-use Rattle.walk.specs.declared.Curve.{Curve}
-use Rattle.walk.specs.declared.Run.{Run}
-use Rattle.walk.specs.Walk.{reach}
+use Rattle.step.specs.declared.Curve.{Curve}
+use Rattle.step.specs.Range.{Braking}
 
--- a curve that divides by something, and whose pressures are those of a brake or above them: the bounds leave room for another curve
-pub record Braking (k : Curve) : Type 0 where
-  pub per : 0 < k .per
-  pub slope : k .slope ≤ 22000
-  pub most : k .most ≤ 11000
-  pub gain : k .gain ≤ 12
-  pub base : k .base ≤ 70000
-
--- the longest step, at s 1
-abbrev pub timeMost : ℕ
-timeMost = 1090909
-
--- the greatest root, at q 1,000,000,000
-abbrev pub rootMost : ℕ
-rootMost = 31622
-
--- a curve, and a time on it
-pub record Applied (k : Curve) (t : ℕ) : Type 0 where
-  pub curve : Braking k
-  pub clock : t ≤ 2048 * timeMost
-
--- what the opposing force is made of, beside the consist: the greatest force of such a curve, and averages with room above the profile's 500 and 2,000
-pub record Opposed (f s q : ℕ) (u : Under) : Type 0 where
-  pub force : f ≤ 212500000
-  pub root : s ≤ rootMost
-  pub squared : q ≤ 1000000000
-  pub grade : natAbs (u .grade) ≤ 128000
-  pub curvature : u .curvature ≤ 512000
-
--- a run that has a step to make
-pub record Moving (c : Consist) (k : Curve) (u : Under) (r : Run) : Type 0 where
-  pub rated : c .rated ≤ 10000000
-  pub applied : Applied k (r .clock)
-  pub grade : natAbs (u .grade) ≤ 128000
-  pub curvature : u .curvature ≤ 512000
-  pub head : r .head ≤ farthest + reach
-  pub some : 0 < r .q
-  pub slow : r .q ≤ 1000000000
-
--- what a walk asks: "rated brake force in lb (0 to 10,000,000)", and a head where a profile may have a start, "at most 4,000,000"
+-- "rated brake force in lb (0 to 10,000,000)", and a head where a profile may have a start, "at most 4,000,000"
 pub record Walkable (c : Consist) (k : Curve) (t : Track) (h : ℕ) : Type 0 where
   pub rated : c .rated ≤ 10000000
   pub curve : Braking k

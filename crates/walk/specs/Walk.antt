@@ -5,11 +5,11 @@ use Prim.Native.Nat.{ℕ, zero, suc, _*_}
 use lib.Dec.{leb, ltb}
 use Rattle.record.specs.Location.{noStop}
 use Rattle.consist.specs.declared.Consist.{Consist}
-use Rattle.walk.specs.declared.Run.{Run}
+use Rattle.step.specs.declared.Run.{Run}
 use Rattle.walk.specs.declared.Prediction.{Prediction}
-use Rattle.walk.specs.Step.{Ground, stepOf}
+use Rattle.step.specs.Step.{stepsMost, squareMost, Ground, stepOf}
 
--- "Steps of 16 ft, at most 2,048": how far a walk goes
+-- how far the steps go
 abbrev pub reach : ℕ
 reach = 32768
 
@@ -21,7 +21,7 @@ pub data Arrival : Type 0 where
 
 -- 11: "the walk's squared speed exceeds 1,000,000,000"
 unfoldable pub tooFast : ℕ → Bool
-tooFast q = ltb 1000000000 q
+tooFast q = ltb squareMost q
 
 -- what a walk answers with its head at h: too fast; slow enough; or what the rest of it answers
 abbrev pub arrivalBy : Bool → Bool → ℕ → Arrival → Arrival
@@ -42,7 +42,7 @@ start head v = record { head = head; clock = 0; q = v * v }
 
 -- "The location for a target speed is the head when q first is at or below that speed squared." For the stop the speed is 0.
 unfoldable pub arrivalFor : Consist → (ℕ → ℕ) → Ground → ℕ → ℕ → ℕ → Arrival
-arrivalFor c force ground head v u = walkTo c force ground (u * u) 2048 (start head v)
+arrivalFor c force ground head v u = walkTo c force ground (u * u) stepsMost (start head v)
 
 -- as in the decision's record: "16,777,215 for no stop"
 abbrev pub locationOf : Arrival → ℕ

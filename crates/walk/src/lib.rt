@@ -1,144 +1,35 @@
 // The walk: the train's predicted run, in steps of 16 ft, with the brakes applied from its start.
-// `force` and `predict` ask for the ranges of specs/Range.antt, in which every number fits its word.
+// `predict` asks for the ranges of specs/Range.antt, in which every number fits its word.
 use consist::Consist;
 use profile::Segment;
+use step::Curve;
+use step::Run;
 use targets::Target;
 use track::Track;
-use track::Under;
 ghost use mathlib.Core.Path.{_≡_};
-ghost use Prim.Native.Nat.{_*_, _≤_, _<_};
-ghost use lib.IntN.{pos, _-ℤ_};
-ghost use Rattle.whole.specs.Floor.{cut};
+ghost use Prim.Native.Nat.{_*_, _≤_};
 ghost use Rattle.record.specs.Location.{noStop};
 ghost use Rattle.track.specs.Steps.{trackOf};
-ghost use Rattle.walk.specs.Curve.{dropAt, cylinderAt, forceAt, penaltyCurve};
-ghost use Rattle.walk.specs.Step.{opposing, loss, stepTime, stepOf, groundOf};
+ghost use Rattle.step.specs.Curve.{forceAt};
+ghost use Rattle.step.specs.Step.{groundOf};
 ghost use Rattle.walk.specs.Walk.{start, predictOf};
-ghost use Rattle.walk.specs.Range.{Applied, Opposed, Moving, Walkable, rootMost};
-ghost use Rattle.walk.specs.Marks.{markOf, Marked, Open, predictionWith, even};
+ghost use Rattle.walk.specs.Range.{Walkable};
+ghost use Rattle.walk.specs.Marks.{markOf, Marked, Open, predictionWith};
 
-// How far a walk goes: 2,048 steps of 16 ft.
+// The most steps of a walk.
+const STEPS_MOST: u32 = 2_048;
+
+// How far they go, at 16 ft each.
 pub const REACH: u64 = 32_768;
 
-// What the cylinder pressure does as the clock runs: base + gain × min(slope × t / per, most) / 2.
-pub struct Curve {
-    pub base: u64,
-    pub gain: u64,
-    pub slope: u64,
-    pub per: u64,
-    pub most: u64,
-}
-
-// The moving part of a walk: head location, clock in ms, squared speed.
-pub struct Run {
-    pub head: u32,
-    pub clock: u64,
-    pub q: u64,
-}
+// The greatest q that is not too fast.
+const SQUARE_MOST: u64 = 1_000_000_000;
 
 // What a walk finds: whether q exceeded its bound, the stopping location, and the location for each target speed.
 pub struct Prediction {
     pub fast: bool,
     pub stop: u32,
     pub arrivals: [u32; Target::MOST],
-}
-
-impl Curve {
-    // The service application that a penalty makes, from the pressures A and B.
-    pub fn penalty(c: Consist, a: u16, b: u16) -> Curve
-        ensures { λ r. ⌜ r ≡ penaltyCurve c a b ⌝ }
-    {
-        let end = brake::equalization_service(a, b);
-        Curve {
-            base: b as u64,
-            gain: 5,
-            slope: 2 * c.set as u64,
-            per: 7 * c.application as u64,
-            most: whole::above(a as u64, end as u64),
-        }
-    }
-
-    // Of the auxiliary reservoirs, t ms after the brakes are applied.
-    fn drop_at(self, t: u64) -> u64
-        requires { ⌜ Applied self t ⌝ }
-        ensures { λ r. ⌜ r ≡ dropAt self t ⌝ }
-    {
-        whole::lesser(self.slope * t / self.per, self.most)
-    }
-
-    // p at the same time.
-    fn cylinder(self, t: u64) -> u64
-        requires { ⌜ Applied self t ⌝ }
-        ensures { λ r. ⌜ r ≡ cylinderAt self t ⌝ }
-    {
-        self.base + self.gain * self.drop_at(t) / 2
-    }
-
-    // F in lb, of a train with this rated force.
-    pub fn force(self, rated: u32, t: u64) -> u64
-        requires { ⌜ Applied self t ⌝ }
-        ensures { λ r. ⌜ r ≡ forceAt rated self t ⌝ }
-    {
-        rated as u64 * self.cylinder(t) / 6_400
-    }
-}
-
-// In millionths of a lb, at s and q, over the ground u.
-fn opposing_force(c: Consist, f: u64, s: u64, q: u64, u: Under) -> i64
-    requires { ⌜ Opposed f s q u ⌝ }
-    ensures { λ r. ⌜ r ≡ opposing c f s q (u .grade) (u .curvature) ⌝ }
-{
-    let w = c.weight as u64;
-    let drag = 1_000_000 * f
-        + 600_000 * w
-        + 20_000_000 * c.axles as u64
-        + 100 * (w * s)
-        + 7 * (c.cars as u64 * q);
-    let pull = (200_000 * w) as i64 * u.grade;
-    let bend = 8_000 * (w * u.curvature);
-    drag as i64 + pull + bend as i64
-}
-
-// What q loses in a step; below zero it gains.
-fn lost(c: Consist, f: u64, s: u64, q: u64, u: Under) -> i64
-    requires { ⌜ Opposed f s q u ⌝ }
-    ensures { λ r. ⌜ r ≡ loss c f s q (u .grade) (u .curvature) ⌝ }
-{
-    let w = c.weight as u64;
-    whole::floor_div(1_449 * opposing_force(c, f, s, q, u), (605_000 * w) as i64)
-}
-
-// q after a step; below zero counts as zero.
-fn slowed(c: Consist, f: u64, s: u64, q: u64, u: Under) -> u64
-    requires { ⌜ Opposed f s q u ⌝ }
-    ensures { λ r. ⌜ r ≡ cut (pos q -ℤ loss c f s q (u .grade) (u .curvature)) ⌝ }
-{
-    let rest = q as i64 - lost(c, f, s, q, u);
-    if rest <= 0 { 0 } else { rest as u64 }
-}
-
-// What the clock gains, in ms.
-fn step_time(s: u64) -> u64
-    requires { ⌜ (0 < s) × (s ≤ rootMost) ⌝ }
-    ensures { λ r. ⌜ r ≡ stepTime s ⌝ }
-{
-    12_000_000 / (11 * s)
-}
-
-impl Run {
-    // After a step over the ground that is under the train at its start.
-    fn stepped(self, c: Consist, curve: Curve, u: Under) -> Run
-        requires { ⌜ Moving c curve u self ⌝ }
-        ensures { λ r. ⌜ r ≡ stepOf c (forceAt (c .rated) curve) (even u) self ⌝ }
-    {
-        let s = whole::isqrt(self.q);
-        let f = curve.force(c.rated, self.clock);
-        Run {
-            head: self.head + 16,
-            clock: self.clock + step_time(s),
-            q: slowed(c, f, s, self.q, u),
-        }
-    }
 }
 
 fn square(speed: u16) -> u64
@@ -239,7 +130,7 @@ fn pass<'a>(
     let mut next = next_mark(arrivals, speeds);
     let mut n: u32 = 0;
     loop {
-        if 1_000_000_000 < run.q {
+        if SQUARE_MOST < run.q {
             return predicted(true, record::NO_STOP, arrivals);
         }
         if run.q <= next {
@@ -250,7 +141,7 @@ fn pass<'a>(
         if run.q == 0 {
             return predicted(false, run.head, arrivals);
         }
-        if n == 2_048 {
+        if n == STEPS_MOST {
             return predicted(false, record::NO_STOP, arrivals);
         }
         let u = track::under_train(count, starts, grades, curvatures, run.head, length);

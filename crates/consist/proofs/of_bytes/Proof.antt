@@ -1,5 +1,9 @@
 -- `consist::of_bytes` meets its contract: each field is read at its place. Assumes nothing.
+use mathlib.Core.Path.{refl}
+use denote.Ref.{now}
 use borrow.Author.Needs.{needs}
+use Rattle.bits.specs.Places.{fieldsFrom}
+use Rattle.consist.specs.Consist.{widths, ofFields}
 use Rattle.consist.proofs.of_bytes.Statement.{statement}
 use Rattle.consist.proofs.of_bytes.Tie as tie
 
@@ -17,6 +21,7 @@ returns c =
       c .before .field8 .ensures .0,
       c .field9 .ensures .0,
     )
+    (refl {a = ofFields (fieldsFrom 0 widths (now (five .before .before .before .before .before .before .args .s)))})
 
 pub of-bytes-spec : {M : Type 1} → statement M
 of-bytes-spec =

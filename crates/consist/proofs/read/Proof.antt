@@ -9,11 +9,12 @@ use lib.ListN.{length}
 use borrow.Author.Tests.{eqb-true, not-false}
 use denote.Ref.{now}
 use Rattle.bits.proofs.Places.{fields-from}
+use Rattle.refusal.specs.declared.Refusal.the-variants.{TooLight}
 use Rattle.refusal.specs.declared.Verdict.the-variants.{Accepted}
 use Rattle.refusal.specs.Number.{told}
 use Rattle.refusal.proofs.Steps.{on-unless, off-unless}
 use Rattle.record.specs.Record.{wrongLength}
-use Rattle.consist.specs.Consist.{size, widths, ofFields, consistIn, outOfRange, tooLight, answer}
+use Rattle.consist.specs.Consist.{size, widths, ofFields, consistIn, outOfRange, tooLight, answer, refusedWith, readConsist}
 use Rattle.consist.proofs.Answers.{read-is}
 use borrow.Author.Needs.{needs}
 use Rattle.consist.proofs.read.Statement.{statement}
@@ -56,7 +57,8 @@ returns-3 c =
     let range = c .before .before .before .before .before in
     let l = past-length (laid range) in
     let w = sym (c .before .before .before .before .too-light .ensures ∙ ap tooLight (l .1)) ∙ off-unless _ (sym (c .before .enum-told6 .given .1) ∙ c .before .before .before .unless3 .ensures) in
-    ap told (c .refused3 .ensures ∙ sym (read-is _ false false true (l .0) (past-range range) w))
+    let five : refusedWith TooLight ≡ readConsist (given (laid range)) = sym (read-is _ false false true (l .0) (past-range range) w) in
+    ap told (c .refused3 .ensures ∙ five)
 
 returns-4 : tie.Need-returns-4
 returns-4 c =

@@ -51,8 +51,9 @@ returns-3 : tie.Need-returns-3
 unfolding noRoom
 returns-3 c =
     let weight = c .before .before .before in
+    let out = now (begun (ranged weight) .before .args .out) in
     let o = off-unless _ (sym (c .enum-told6 .given .1) ∙ c .before .before .unless3 .ensures) in
-    ap told (sym (write-is _ _ false false true (past-range (ranged weight)) (past-weight weight) o))
+    ap told (sym (write-is _ out false false true (past-range (ranged weight)) (past-weight weight) o))
 
 returns-4 : tie.Need-returns-4
 unfolding noRoom bytesOf

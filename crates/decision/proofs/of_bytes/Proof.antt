@@ -1,4 +1,5 @@
 -- `decision::of_bytes` meets its contract: each field is read at its place. Assumes nothing.
+use mathlib.Core.Path.{refl}
 use borrow.Author.Needs.{needs}
 use Rattle.decision.proofs.of_bytes.Statement.{statement}
 use Rattle.decision.proofs.of_bytes.Tie as tie
@@ -12,6 +13,7 @@ returns c =
       c .before .field4 .ensures .0,
       c .field5 .ensures .0,
     )
+    refl
 
 pub of-bytes-spec : {M : Type 1} → statement M
 of-bytes-spec =

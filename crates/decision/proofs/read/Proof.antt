@@ -11,11 +11,12 @@ use denote.Ref.{now}
 use Rattle.bits.specs.Bytes.{fieldsIn}
 use Rattle.bits.specs.Places.{fieldsFrom}
 use Rattle.bits.proofs.Places.{fields-from}
+use Rattle.refusal.specs.declared.Refusal.the-variants.{WrongMark}
 use Rattle.refusal.specs.declared.Verdict.the-variants.{Accepted}
 use Rattle.refusal.specs.Number.{told}
 use Rattle.refusal.proofs.Steps.{on-unless, off-unless}
 use Rattle.record.specs.Record.{wrongLength}
-use Rattle.decision.specs.Decision.{size, mark, widths, ofFields, decisionIn, wrongMark, outOfRange, answer}
+use Rattle.decision.specs.Decision.{size, mark, widths, ofFields, decisionIn, wrongMark, outOfRange, answer, refusedWith, readDecision}
 use Rattle.decision.proofs.Answers.{read-is}
 use borrow.Author.Needs.{needs}
 use Rattle.decision.proofs.read.Statement.{statement}
@@ -53,12 +54,14 @@ returns c =
 returns-2 : tie.Need-returns-2
 unfolding wrongMark
 returns-2 c =
-    let l = past-length (c .before .before .before .before .before) in
+    let mark-read = c .before .before .before .before .before in
+    let l = past-length mark-read in
     let m =
     ap (λ (fs : List ℕ). not (eqb (getD fs 0 0) mark)) (sym (l .1))
     ∙ ap (λ (x : ℕ). not (eqb x mark)) (sym (c .before .before .before .before .field .ensures .0))
     ∙ off-unless _ (sym (c .before .enum-told4 .given .1) ∙ c .before .before .before .unless2 .ensures) in
-    ap told (c .refused2 .ensures ∙ sym (read-is _ false true _ (l .0) m refl))
+    let three : refusedWith WrongMark ≡ readDecision (given mark-read) = sym (read-is _ false true _ (l .0) m refl) in
+    ap told (c .refused2 .ensures ∙ three)
 
 returns-3 : tie.Need-returns-3
 unfolding decisionIn

@@ -8,9 +8,9 @@ use lib.ListN.{length}
 use lib.Seq.{length-take-le}
 use borrow.Author.Needs.{needs}
 use Rattle.io.specs.Counts.{Counts}
-use Rattle.feed.specs.declared.opening.Part.{Part}
-use Rattle.feed.specs.declared.opening.Part.the-variants.{Bytes}
-use Rattle.feed.specs.Opening.{bytesIn}
+use Rattle.opening.specs.declared.Part.{Part}
+use Rattle.opening.specs.declared.Part.the-variants.{Bytes}
+use Rattle.opening.specs.Opening.{bytesIn}
 use Rattle.feed.proofs.run.Statement.{statement}
 use Rattle.feed.proofs.run.Tie as tie
 

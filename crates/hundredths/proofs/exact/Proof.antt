@@ -2,19 +2,17 @@
 use mathlib.Core.Path.{_≡_, sym, ap, _∙_, subst}
 use native.Mathlib.Omega.{arith}
 use lib.Dec.{T}
-use lib.Ieee.{binary32, fits, ofBits}
+use lib.Ieee.{binary32, ofBits}
 use lib.Ieee.Bits.{ofBits-toBits}
 use borrow.Author.Needs.{needs}
 use Rattle.hundredths.proofs.Value.{field-le, without-field, with-field}
 use Rattle.hundredths.proofs.exact.Statement.{statement}
 use Rattle.hundredths.proofs.exact.Tie as tie
 
--- an f32 is a value that its format holds
-in-format : (c : tie.Start) → T (fits binary32 (c .args .x))
-in-format c = subst T (sym (c .good .0 .1)) tt
-
 pattern : (c : tie.After-bits-of) → ofBits binary32 (c .bits-of .result) ≡ c .before .args .x
-pattern c = ap (ofBits binary32) (c .bits-of .ensures) ∙ ofBits-toBits binary32 (c .before .args .x) (in-format (c .before))
+pattern c =
+    -- an f32 is a value that its format holds
+    ap (ofBits binary32) (c .bits-of .ensures) ∙ ofBits-toBits binary32 (c .before .args .x) (subst T (sym (c .before .good .0 .1)) tt)
 
 bits-of-requires : tie.Need-bits-of-requires
 bits-of-requires c κs = search needs

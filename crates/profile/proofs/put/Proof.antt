@@ -1,9 +1,12 @@
 -- `profile::put` meets its contract. Assumes nothing.
-use mathlib.Core.Path.{_≡_}
+use mathlib.Core.Path.{_≡_, refl}
 use native.Mathlib.Omega.{arith}
 use mir.Syntax.{w16}
 use mir.Val.{toZ, ofZ}
+use denote.Ref.{now}
 use borrow.Author.Needs.{needs}
+use Rattle.bits.specs.Places.{putFrom}
+use Rattle.profile.specs.Profile.{widths, fieldsOf}
 use Rattle.profile.proofs.Grade.{in-eleven}
 use Rattle.profile.proofs.Sound.{ranged}
 use Rattle.profile.proofs.put.Statement.{statement}
@@ -20,7 +23,8 @@ returns : tie.Need-returns
 returns c =
     let fields = c .before .before in
     let bits = fields .before .before .before .before .before in
-    rw (fields .put-fields .ensures, bits .grade-bits .ensures, grade-is (bits .before))
+    let a = bits .before .before .before .before .args in
+    rw (fields .put-fields .ensures, bits .grade-bits .ensures, grade-is (bits .before)) (refl {a = putFrom 0 widths (fieldsOf (a .g)) (now (a .out))})
 
 pub put-spec : {M : Type 1} → statement M
 put-spec =

@@ -8,7 +8,7 @@ use borrow.Author.Tests.{not-false}
 use Rattle.bits.proofs.Ranges.{and-true-left, and-true-right}
 use Rattle.table.proofs.Judging.{counted-range, closed-last, Judged, judged-none, judged-next, lawful-wrong, lawful-judged}
 use Rattle.profile.specs.Profile.{fewest, ends, segments, counted, segmentOf, same}
-use Rattle.profile.proofs.Sound.{counted-is, lengths}
+use Rattle.profile.proofs.Sound.{ends-is, counted-is, lengths}
 use Rattle.profile.proofs.rows_keep.Statement.{statement}
 use Rattle.profile.proofs.rows_keep.Tie as tie
 
@@ -43,19 +43,20 @@ loop-again c =
 
 returns-2 : tie.Need-returns-2 Inv-loop μ-loop
 returns-2 c =
-    let number = c .before .before .before .before in
+    let end = c .before .before .before in
+    let number = end .before .before .before in
     let a = number .before .before .before .args in
     let n = length (a .starts .now) in
     let f = segmentOf (a .starts .now) (a .grades .now) (a .curvatures .now) in
     let b = same (a .starts .now) (a .grades .now) (a .curvatures .now) in
-    let l = c .before .before .before .loop in
+    let l = end .before .before .loop in
     sym
-    (lawful-judged segments n f (λ i. true) b (counted-is b n) (number .if1 .left) (l .k) (l .good) (l .before) _ (l .inv) (c .before .before .loop-test .left)
-    (c .only-ends .ensures ∙ ap ends {y = f (n - 1)} (c .before .row-at2 .ensures) ∙ closed-last segments n f (omega (arith, known number))))
+    (lawful-judged segments n f (λ i. true) b (counted-is b n) (number .if1 .left) (l .k) (l .good) (l .before) _ (l .inv) (end .before .loop-test .left)
+    (ends-is (end .row-at2 .result) (c .before .struct-told .given .1 .0 .1) ∙ ap ends {y = f (n - 1)} (end .row-at2 .ensures) ∙ closed-last segments n f (omega (arith, known number))))
 
 pub rows-keep-spec : {M : Type 1} → statement M
 rows-keep-spec =
     tie.close
     (tie.spec Inv-loop μ-loop returns (λ c. omega (arith, known c)) (λ c. judged-none segments _ _ _)
     (λ c κs. omega (arith, known (c .before .before))) (λ c κs. tt) (λ c. omega arith) (λ c. omega arith) loop-again
-    (λ c κs. omega (arith, known (c .before .before))) (λ c κs. tt) returns-2)
+    (λ c κs. omega (arith, known (c .before .before))) returns-2)

@@ -23,11 +23,11 @@ returns c =
 returns-2 : tie.Need-returns-2
 returns-2 c =
     let j = judged-is _ (c .before .before .before .judge .result) _ (c .before .before .before .judge .ensures) (c .before .enum-told4 .given .1) in
-    ap answerTold (c .refused .ensures ∙ sym (read-is _ _ true (past-layout (c .before .before .before .before .before)) (judged-refused _ _ _ j .0)))
+    ap answerTold (c .refused .ensures ∙ sym (read-is _ _ true (past-layout (c .before .before .before .before)) (judged-refused _ _ _ j .0)))
 
 returns-3 : tie.Need-returns-3
 returns-3 c =
-    let laid = c .before .before .before .before in
+    let laid = c .before .before .before in
     let j = judged-is _ (c .before .before .judge .result) _ (c .before .before .judge .ensures) (c .enum-told3 .given .1) in
     ap answerTold
     (ap (λ (v : Verdict). (v, laid .before .before .lay-out .result .raw)) (laid .enum-told .given .1)

@@ -1,4 +1,5 @@
 -- `seal::is_sealed` meets its contract. Assumes nothing.
+use mathlib.Core.Path.{refl}
 use native.Mathlib.Omega.{arith}
 use lib.ListN.{length, length-take}
 use borrow.Author.Tests.{lt-leb}
@@ -11,7 +12,7 @@ use Rattle.seal.proofs.is_sealed.Tie as tie
 
 returns : tie.Need-returns
 unfolding isSealed
-returns c = rw (lt-leb 4 (length (now (c .before .before .args .s))) (c .if1 .taken))
+returns c = rw (lt-leb 4 (length (now (c .before .before .args .s))) (c .if1 .taken)) refl
 
 returns-2 : tie.Need-returns-2
 returns-2 c =

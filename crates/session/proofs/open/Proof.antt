@@ -29,10 +29,9 @@ module _ (c : tie.After-read) where
 
 returns : tie.Need-returns
 returns c =
-    let k = c .before .before .before in
+    let k = c .before .before in
     ap answerTold
-    (c .refused .ensures
-    ∙ ap (λ (v : Verdict). answer (kept v (openedWith (read k .1)) (start k .args .x)) (read k .0)) (sym (c .before .enum-told2 .given .1))
+    (ap (λ (v : Verdict). answer (kept v (openedWith (read k .1)) (start k .args .x)) (read k .0)) (sym (c .enum-told2 .given .1))
     ∙ opened-by k)
 
 returns-2 : tie.Need-returns-2
@@ -46,4 +45,4 @@ returns-2 c =
 pub open-spec : {M : Type 1} → statement M
 open-spec =
     tie.close
-    (tie.spec (λ c κs. search needs) (λ c. search needs) (λ c. search needs) (λ c κs. search needs) returns (λ c κs. search needs) returns-2)
+    (tie.spec (λ c κs. search needs) (λ c. search needs) (λ c. search needs) returns (λ c κs. search needs) returns-2)

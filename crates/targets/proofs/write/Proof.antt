@@ -39,8 +39,11 @@ past-rules c = sym (c .before .before .before .rows-keep .ensures) ∙ not-false
 returns-2 : tie.Need-returns-2 Inv-loop μ-loop
 unfolding noRoom
 returns-2 c =
+    let rules = c .before .before .before in
+    let a = begun rules .before .before .before .args in
     let no = off-unless _ (sym (c .enum-told4 .given .1) ∙ c .before .before .unless2 .ensures) in
-    ap told (sym (write-is targets _ facts _ _ _ true true (past-rules (c .before .before .before)) no))
+    let f = targetOf (a .locations .now) (a .speeds .now) in
+    ap told (sym (write-is targets f facts (same (a .locations .now) (a .speeds .now)) _ (a .out .now) true true (past-rules rules) no))
 
 loop-holds : tie.Need-loop-holds Inv-loop μ-loop
 loop-holds c =

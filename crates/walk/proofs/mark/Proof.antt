@@ -5,7 +5,7 @@ use Prim.Native.Nat.{ℕ, _*_}
 use lib.Dec.{leb, eqb}
 use borrow.Author.Needs.{needs}
 use Rattle.record.specs.Location.{noStop}
-use Rattle.walk.specs.declared.Run.{Run}
+use Rattle.step.specs.declared.Run.{Run}
 use Rattle.walk.specs.Marks.{markOf}
 use Rattle.walk.proofs.mark.Statement.{statement}
 use Rattle.walk.proofs.mark.Tie as tie

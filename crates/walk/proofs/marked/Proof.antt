@@ -7,7 +7,7 @@ use lib.ListN.{length, getD, set, length-set}
 use lib.Seq.{getD-set-same, getD-set-other}
 use borrow.Author.Count.{below-more}
 use Rattle.targets.specs.Targets.{most}
-use Rattle.walk.specs.declared.Run.{Run}
+use Rattle.step.specs.declared.Run.{Run}
 use Rattle.walk.specs.Marks.{markOf}
 use Rattle.walk.proofs.marked.Statement.{statement}
 use Rattle.walk.proofs.marked.Tie as tie

@@ -1,6 +1,7 @@
 -- `walk::pass` meets its contract: after each step, what is found at an arrival or the rest of the walk is what the whole walk finds.
 -- Assumes nothing.
 use mathlib.Core.Path.{_≡_, ap, _∙_}
+use mathlib.Core.Bool.{false}
 use Prim.Native.Nat.{ℕ, _-_, _≤_, _<_}
 use native.Mathlib.Omega.{arith}
 use mathlib.Core.List.{List}
@@ -13,10 +14,10 @@ use Rattle.track.specs.Track.{underOf}
 use Rattle.track.specs.Steps.{trackOf}
 use Rattle.track.proofs.Gentle.{gentle-grade, gentle-curvature}
 use Rattle.targets.specs.Targets.{most}
-use Rattle.walk.specs.Curve.{forceAt}
-use Rattle.walk.specs.declared.Run.{Run}
-use Rattle.walk.specs.Step.{groundOf, stepOf}
-use Rattle.walk.specs.Marks.{Marked, Open, even}
+use Rattle.step.specs.Curve.{forceAt}
+use Rattle.step.specs.declared.Run.{Run}
+use Rattle.step.specs.Step.{stepsMost, squareMost, groundOf, even, stepOf}
+use Rattle.walk.specs.Marks.{Marked, Open, predictionWith}
 use Rattle.walk.proofs.Arrivals.{Walked, walk-begins, unmarked, answer-fast, answer-stop, answer-never, walks-on}
 use Rattle.walk.proofs.pass.Statement.{statement}
 use Rattle.walk.proofs.pass.Tie as tie
@@ -27,7 +28,7 @@ Inv-loop c curve count starts grades curvatures head speed speeds length run₀ 
     × Open speeds arrivals next
 
 abbrev μ-loop : tie.MeasureT-loop
-μ-loop c curve count starts grades curvatures head speed speeds length run₀ arrivals₀ next₀ n₀ run arrivals next n = 2048 - n
+μ-loop c curve count starts grades curvatures head speed speeds length run₀ arrivals₀ next₀ n₀ run arrivals next n = stepsMost - n
 
 carried : {r : Run} {speeds before arrivals arrivals′ : List ℕ} {next next′ : ℕ} → arrivals′ ≡ arrivals → next′ ≡ next
     → Marked r speeds before arrivals → Open speeds arrivals next → Marked r speeds before arrivals′ × Open speeds arrivals′ next′
@@ -54,7 +55,7 @@ module _ (c : tie.Joined2 Inv-loop μ-loop) where
       (λ w. carried (w .1) (w .2) (unmarked _ _ _ _ (i .0 .size) (i .1) (w .0 .left)) (i .1))
       (c .if2 .came)
 
-  slow : here .loop .run .q ≤ 1000000000
+  slow : here .loop .run .q ≤ squareMost
   slow = c .before .before .if1 .left
 
 eight : (c : tie.Start Inv-loop μ-loop) → length (c .args .speeds) ≡ most
@@ -65,7 +66,7 @@ module _ (c : tie.Else4 Inv-loop μ-loop) where
   abbrev joined : tie.Joined2 Inv-loop μ-loop
   joined = c .before .before .before
 
-  steps-left : here joined .loop .n < 2048
+  steps-left : here joined .loop .n < stepsMost
   steps-left = omega (arith, here joined .loop .inv .0 .steps, c .if4 .left)
 
   moves : 0 < here joined .loop .run .q
@@ -111,7 +112,8 @@ predicted-requires-2 c κs = tt
 returns-2 : tie.Need-returns-2 Inv-loop μ-loop
 returns-2 c =
     let j = c .before .before .before in
-    c .predicted2 .ensures ∙ answer-stop (eight (entry j)) (here j .loop .inv .0) (marks j .0) (slow j) (entry j .pre .head) (c .before .if3 .taken)
+    let e : c .predicted2 .result ≡ predictionWith false (here j .loop .run .head) (j .if2 .arrivals) = c .predicted2 .ensures in
+    e ∙ answer-stop (eight (entry j)) (here j .loop .inv .0) (marks j .0) (slow j) (entry j .pre .head) (c .before .if3 .taken)
 
 predicted-requires-3 : tie.Need-predicted-requires-3 Inv-loop μ-loop
 predicted-requires-3 c κs = tt
@@ -135,8 +137,8 @@ stepped-requires c κs =
     record {
       rated = s .pre .rated;
       applied = record { curve = s .pre .curve; clock = omega (arith, w .clock-most, w .steps) };
-      grade = rw (c .under-train .ensures) (gentle-grade (track j) (s .pre .track) (r .head) (s .args .c .length));
-      curvature = rw (c .under-train .ensures) (gentle-curvature (track j) (s .pre .track) (r .head) (s .args .c .length));
+      grade = rw (c .under-train .ensures) (gentle-grade (track j) (s .pre .track) _ (s .args .c .length));
+      curvature = rw (c .under-train .ensures) (gentle-curvature (track j) (s .pre .track) _ (s .args .c .length));
       head = omega (arith, w .head-is, w .steps, s .pre .head);
       some = moves (c .before);
       slow = slow j;
@@ -153,8 +155,9 @@ loop-again c =
     let e = c .before .before in
     let j = joined e in
     let s = entry j in
-    let r = here j .loop .run in (
-      rw (over-track (s .args .c) (force j) (track j) (s .args .c .length) r _ _ (c .stepped .ensures) (c .before .under-train .ensures))
+    let r = here j .loop .run in
+    let under : c .before .under-train .result ≡ underOf (track j) (r .head) (s .args .c .length) = c .before .under-train .ensures in (
+      rw (over-track (s .args .c) (force j) (track j) (s .args .c .length) r _ _ (c .stepped .ensures) under)
           (walks-on (eight s) (here j .loop .inv .0) (marks j .0) (slow j) (s .pre .head) (moves e) (steps-left e)),
       marks j .1,
     )

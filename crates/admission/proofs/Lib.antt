@@ -1,0 +1,4 @@
+-- Laws of an admission.
+pub mod Rules
+pub mod Admitted
+pub mod Unique

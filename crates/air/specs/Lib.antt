@@ -1,0 +1,4 @@
+-- The air brakes as the rules change them.
+-- Rules is the paper's "The air brakes, once a sample", from "Start applying" on; Air says which fields of a brake the rules change.
+pub mod Air
+pub mod Rules

@@ -1,0 +1,2 @@
+-- The library's own constants.
+pub mod Version

@@ -1,0 +1,48 @@
+// The library for C: the customer's calls with the session in lent bytes, the records, and the version. A slice is a pointer, then a length;
+// an answer is the refusal's number, 0 for none.
+pub mod records;
+
+ghost use mathlib.Core.Path.{_≡_};
+ghost use Rattle.lent.specs.Lent.{openBytes, sampleBytes, isOpenBytes};
+ghost use Rattle.buongilach.specs.Version.{version};
+
+// Opens a session anew with the consist: writes its record to the start of `session`.
+#[no_mangle]
+pub extern "C" fn buongilach_open(session: &mut [u8], consist: &[u8]) -> u8
+    ensures { λ r. ⌜ (r, now (session .exit)) ≡ openBytes (now (consist .entry)) (now (session .entry)) ⌝ }
+{
+    lent::open(session, consist)
+}
+
+// Judges a sample, with the profile and the targets lent for it, moves the session on and writes the decision to the start of `decision`.
+#[no_mangle]
+pub extern "C" fn buongilach_sample(
+    session: &mut [u8],
+    sample: &[u8],
+    profile: &[u8],
+    targets: &[u8],
+    decision: &mut [u8],
+) -> u8
+    ensures { λ r. ⌜ (r, now (session .exit), now (decision .exit)) ≡ sampleBytes (now (session .entry)) (now (sample .entry)) (now (profile .entry)) (now (targets .entry)) (now (decision .entry)) ⌝ }
+{
+    lent::sample(session, sample, profile, targets, decision)
+}
+
+// Whether the bytes begin with an open session's record.
+#[no_mangle]
+pub extern "C" fn buongilach_is_open(session: &[u8]) -> bool
+    ensures { λ r. ⌜ r ≡ isOpenBytes (now (session .entry)) ⌝ }
+{
+    lent::is_open(session)
+}
+
+// Three digits each for minor and patch.
+const VERSION: u32 = 2_001_000;
+
+// The version of this library.
+#[no_mangle]
+pub extern "C" fn buongilach_version() -> u32
+    ensures { λ r. ⌜ r ≡ version ⌝ }
+{
+    VERSION
+}

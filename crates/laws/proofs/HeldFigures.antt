@@ -1,0 +1,28 @@
+-- The figures of the session's record, computed. Assumes nothing.
+use mathlib.Core.Path.{refl}
+use Rattle.bits.specs.Places.{lies, fieldAt}
+use Rattle.refusal.specs.Lowest.{lowest}
+use Rattle.record.specs.Record.{wrongLength}
+use Rattle.seal.specs.Seal.{checkWord, sealed, isSealed}
+use Rattle.consist.specs.Consist as consist
+use Rattle.brake.specs.Brake.{isAtOpening}
+use Rattle.brake.specs.Sound as brake
+use Rattle.session.specs.Session.{isOpen}
+use Rattle.held.specs.Held.{sessionIn, bytesOf, noRecord, noSession, readSession}
+use Rattle.laws.specs.HeldFigures.{Figures}
+
+pub figures : Figures
+unfolding lies fieldAt wrongLength checkWord sealed isSealed sessionIn bytesOf noRecord noSession readSession lowest isOpen isAtOpening consist.consistIn consist.bytesOf consist.inRange consist.tooLight consist.isSound brake.isSound
+figures = record {
+  written = refl;
+  read = refl;
+  other-mark = refl;
+  state-six = refl;
+  state-seven = refl;
+  a-above-set = refl;
+  a-below-set = refl;
+  a-cause = refl;
+  a-ton-less = refl;
+  a-byte-less = refl;
+  not-sealed = refl;
+}

@@ -1,0 +1,16 @@
+-- Laws and figures of the layers that no code's proof needs: statements.
+-- what is written reads back, and what is accepted is what would be written
+pub mod ProfileTrip
+pub mod SampleTrip
+pub mod HeldTrip
+-- what damage to a session's record is seen
+pub mod HeldDamage
+-- document 01's walk to the letter, and the comparison behind demand 3
+pub mod Literal
+pub mod Compare
+pub mod Approaches
+-- figures by computation
+pub mod ProfileFigures
+pub mod SampleFigures
+pub mod BrakeFigures
+pub mod HeldFigures

@@ -1,0 +1,5 @@
+-- Laws that several proofs cite, and uniqueness.
+pub mod Decimal
+pub mod Put
+pub mod Spaced
+pub mod Unique

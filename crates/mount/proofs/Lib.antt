@@ -1,3 +1,0 @@
--- Laws of the calls for C.
-pub mod Told
-pub mod Calls

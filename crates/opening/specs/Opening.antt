@@ -1,0 +1,60 @@
+-- "consist, two-byte record count (high byte first) and profile, one-byte count and targets": what a count announces, and when a list is taken. Definitions only.
+use Prim.Native.Nat.{ℕ, _*_}
+use mathlib.Core.List.{List}
+use mathlib.Core.Bool.{Bool, true, false, _&&_, cond}
+use lib.ListN.{length}
+use lib.Dec.{eqb}
+use Rattle.bits.specs.Bytes.{num}
+use Rattle.refusal.specs.declared.Verdict.{Verdict}
+use Rattle.refusal.specs.declared.Verdict.the-variants.{Accepted, Refused}
+use Rattle.profile.specs.Profile as profile
+use Rattle.targets.specs.Targets as targets
+use Rattle.opening.specs.declared.Part.{Part}
+use Rattle.opening.specs.declared.Part.the-variants.{Bytes, Broken}
+
+-- how many bytes a part has
+abbrev pub bytesIn : Part → ℕ
+bytesIn (Bytes n) = n
+bytesIn Broken = 0
+
+-- the bytes of the longest list
+abbrev pub profileRoom : ℕ
+profileRoom = profile.size * profile.most
+
+abbrev pub targetsRoom : ℕ
+targetsRoom = targets.size * targets.most
+
+-- a count of so many bytes announces records, each of one size; missing, cut short or out of range it is broken
+abbrev pub announced : ℕ → (ℕ → Bool) → ℕ → List ℕ → Part
+announced width counted size s = cond (eqb (length s) width && counted (num s)) (Bytes (size * num s)) Broken
+
+-- "two-byte record count", "one-byte count"
+abbrev pub profileCountSize : ℕ
+profileCountSize = 2
+
+abbrev pub targetsCountSize : ℕ
+targetsCountSize = 1
+
+-- "two-byte record count (high byte first) and profile"
+unfoldable pub profileAhead : List ℕ → Part
+profileAhead s = announced profileCountSize profile.counted profile.size s
+
+-- "one-byte count and targets"
+unfoldable pub targetsAhead : List ℕ → Part
+targetsAhead s = announced targetsCountSize targets.counted targets.size s
+
+-- a judge's verdict, as a test
+abbrev pub isAccepted : Verdict → Bool
+isAccepted Accepted = true
+isAccepted (Refused r) = false
+
+-- "a broken or short profile", "targets": what came is not taken
+unfoldable pub taken : Part → ℕ → Bool → Part
+taken (Bytes size) came right = cond (eqb came size && right) (Bytes size) Broken
+taken Broken came right = Broken
+
+abbrev pub profileTaken : Part → List ℕ → Part
+profileTaken ahead p = taken ahead (length p) (isAccepted (profile.judgeProfile p .0))
+
+abbrev pub targetsTaken : Part → List ℕ → Part
+targetsTaken ahead t = taken ahead (length t) (isAccepted (targets.judgeTargets t .0))

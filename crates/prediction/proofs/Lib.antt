@@ -1,0 +1,4 @@
+-- Laws of a prediction.
+pub mod Ready
+pub mod Bounds
+pub mod Unique

@@ -1,0 +1,39 @@
+-- What is known of an admitted sample, and that its walk can be made. Assumes nothing.
+use mathlib.Core.Path.{_≡_}
+use mathlib.Core.List.{List}
+use Prim.Native.Nat.{ℕ, _≤_}
+use native.Mathlib.Omega.{arith}
+use Rattle.refusal.specs.declared.Verdict.the-variants.{Accepted}
+use Rattle.record.specs.Location.{farthest}
+use Rattle.consist.specs.declared.Consist.{Consist}
+use Rattle.consist.specs.Sound as consist
+use Rattle.profile.specs.Profile as profile
+use Rattle.sample.specs.declared.Sample.{Sample}
+use Rattle.sample.specs.Bounds.{Bounded}
+use Rattle.brake.specs.declared.Brake.{Brake}
+use Rattle.brake.specs.Sound as brake
+use Rattle.track.specs.Track.{layOf}
+use Rattle.track.proofs.Accepted.{lay-gentle}
+use Rattle.step.specs.Curve.{penaltyCurve}
+use Rattle.walk.specs.Range.{Walkable}
+use Rattle.step.proofs.Bounds.{penalty-braking}
+use Rattle.prediction.specs.Steps.{Ready}
+
+module _ (c : Consist) (k : Brake) (m : Sample) (p : List ℕ) where
+  -- over an accepted profile
+  pub ready : consist.Sound c → brake.Sound c k → Bounded m → profile.judgeProfile p ≡ (Accepted, profile.count p) → m .head ≤ farthest → Ready c k m p
+  ready sound-consist sound-brake bounded judged head = record {
+    consist = sound-consist;
+    brake = sound-brake;
+    sample = bounded;
+    track = lay-gentle p (profile.count p) judged;
+    head = head;
+  }
+
+  pub walkable : Ready c k m p → Walkable c (penaltyCurve c (k .a) (k .b)) (layOf p) (m .head)
+  walkable h = record {
+    rated = omega arith;
+    curve = penalty-braking c (k .a) (k .b) (omega arith) (omega arith) (omega arith) (omega arith);
+    track = h .track;
+    head = h .head;
+  }

@@ -1,0 +1,6 @@
+-- Laws of a sample call.
+pub mod Accepted
+pub mod Admitted
+pub mod Calls
+pub mod Laws
+pub mod Computing

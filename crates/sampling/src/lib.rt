@@ -1,0 +1,94 @@
+// A sample call: an open session is fed one sample a second.
+use decision::Decision;
+use refusal::Refusal;
+use refusal::Verdict;
+use sample::Sample;
+use session::Answer;
+use session::Session;
+ghost use mathlib.Core.Path.{_≡_};
+ghost use Rattle.prediction.specs.Steps.{Ready};
+ghost use Rattle.session.specs.Session.{callTold};
+ghost use Rattle.sampling.specs.Sample.{sampleCall};
+ghost use Rattle.sampling.specs.Steps.{afterOf};
+
+// What an admitted sample makes of the session, what is decided, and whether the walk was too fast.
+pub struct After {
+    pub session: Session,
+    pub decision: Decision,
+    pub fast: bool,
+}
+
+// The update, the prediction, the standing penalty, the decision.
+fn advance(x: Session, m: Sample, p: &[u8], t: &[u8]) -> After
+    requires { ⌜ Ready (x .consist) (x .brake) m (now p) ⌝ }
+    ensures { λ r. ⌜ r ≡ afterOf x m (now (p .entry)) (now (t .entry)) ⌝ }
+{
+    let c = x.consist;
+    let held = x.brake;
+    let rear = m.rear;
+    let updated = update::updated(held, c, m.time, m.front, rear);
+    let found = prediction::of_sample(c, updated, m, p, t);
+    let cause = if x.cause == 0 { found.called } else { x.cause };
+    let state = updated.state;
+    let decision = Decision {
+        time: m.time,
+        state: brake::state_number(state),
+        penalty: cause != 0,
+        cause,
+        stop: found.stop,
+    };
+    let session = Session {
+        opened: true,
+        consist: c,
+        brake: updated,
+        cause,
+    };
+    After {
+        session,
+        decision,
+        fast: found.fast,
+    }
+}
+
+// Judges a sample, with the profile and the targets lent for it, and writes the decision to the front of `out`.
+pub fn sample(x: Session, s: &[u8], p: &[u8], t: &[u8], out: &mut [u8]) -> Answer
+    ensures { λ r. ⌜ callTold (r, now (out .exit)) ≡ callTold (sampleCall x (now (s .entry)) (now (p .entry)) (now (t .entry)) (now (out .entry))) ⌝ }
+{
+    if !session::is_open(x) {
+        return Answer {
+            session: x,
+            verdict: Verdict::Refused(Refusal::NoSession),
+        };
+    }
+    let c = x.consist;
+    let k = x.brake;
+    let entry = admission::admit(c, k, s, p, t);
+    let admitted = entry.verdict;
+    let Verdict::Accepted = admitted else {
+        return Answer {
+            session: x,
+            verdict: admitted,
+        };
+    };
+    let m = entry.sample;
+    let next = advance(x, m, p, t);
+    let session = next.session;
+    let decided = next.decision;
+    if next.fast {
+        return Answer {
+            session: x,
+            verdict: Verdict::Refused(Refusal::TooFast),
+        };
+    }
+    let written = decision::write(decided, out);
+    let Verdict::Accepted = written else {
+        return Answer {
+            session: x,
+            verdict: written,
+        };
+    };
+    Answer {
+        session,
+        verdict: Verdict::Accepted,
+    }
+}

@@ -1,0 +1,3 @@
+-- Laws of a step, and the contracts' uniqueness.
+pub mod Bounds
+pub mod Unique

@@ -1,0 +1,54 @@
+-- One step of 16 ft: "In each step, from the values at its start". Definitions only.
+use Prim.Native.Nat.{ℕ, _+_, _*_, _/_}
+use lib.IntN.{ℤ, pos, _+ℤ_, _-ℤ_, _*ℤ_}
+use Rattle.whole.specs.Floor.{floorDiv, cut}
+use Rattle.whole.specs.Root.{rootOf}
+use Rattle.consist.specs.declared.Consist.{Consist}
+use Rattle.track.specs.declared.Track.{Track}
+use Rattle.track.specs.declared.Under.{Under}
+use Rattle.track.specs.Track.{gradeUnder, curvatureUnder}
+use Rattle.step.specs.declared.Run.{Run}
+
+-- "Steps of 16 ft, at most 2,048"
+abbrev pub stepsMost : ℕ
+stepsMost = 2048
+
+-- the greatest q that a step is made from; past it a walk is refused
+abbrev pub squareMost : ℕ
+squareMost = 1000000000
+
+-- G and C by the head's location
+pub record Ground : Type 0 where
+  pub grade : ℕ → ℤ
+  pub curvature : ℕ → ℕ
+
+-- under a train of this length
+abbrev pub groundOf : Track → ℕ → Ground
+groundOf t length = record { grade = λ h. gradeUnder t h length; curvature = λ h. curvatureUnder t h length }
+
+-- these averages wherever the head is
+abbrev pub even : Under → Ground
+even u = record { grade = λ h. u .grade; curvature = λ h. u .curvature }
+
+-- "Opposing force in millionths of a lb: 1,000,000 F + 600,000 W + 20,000,000 n + 100 W s + 7 N q + 200,000 W G + 8,000 W C"
+unfoldable pub opposing : Consist → ℕ → ℕ → ℕ → ℤ → ℕ → ℤ
+opposing c f s q g k =
+    pos (1000000 * f + 600000 * c .weight + 20000000 * c .axles + 100 * (c .weight * s) + 7 * (c .cars * q))
+    +ℤ pos (200000 * c .weight) *ℤ g
+    +ℤ pos (8000 * (c .weight * k))
+
+-- "q loses 1,449 × that / (605,000 W), down, rounded here only"; "It may gain."
+unfoldable pub loss : Consist → ℕ → ℕ → ℕ → ℤ → ℕ → ℤ
+loss c f s q g k = floorDiv (pos 1449 *ℤ opposing c f s q g k) (pos (605000 * c .weight))
+
+-- "t gains 12,000,000 / (11 s) ms, down."
+unfoldable pub stepTime : ℕ → ℕ
+stepTime s = 12000000 / (11 * s)
+
+-- the step, under a brake force that is a function of t; a q below zero counts as zero. "s = whole square root of q." "Head gains 16."
+unfoldable pub stepOf : Consist → (ℕ → ℕ) → Ground → Run → Run
+stepOf c force ground r = record {
+  head = r .head + 16;
+  clock = r .clock + stepTime (rootOf (r .q));
+  q = cut (pos (r .q) -ℤ loss c (force (r .clock)) (rootOf (r .q)) (r .q) (ground .grade (r .head)) (ground .curvature (r .head)));
+}

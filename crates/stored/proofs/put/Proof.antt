@@ -1,0 +1,72 @@
+-- `stored::put` meets its contract: the fields, the consist's record and the check word, one after the other. Assumes nothing.
+use mathlib.Core.Path.{_≡_, refl, ap, ap₂, _∙_}
+use Prim.Native.Nat.{ℕ, _≤_}
+use native.Mathlib.Omega.{arith}
+use mathlib.Core.Bool.{true, false}
+use mathlib.Core.List.{List, _++_, append-nil}
+use lib.ListN.{length, take, drop, length-take, length-drop, drop-of-length-le}
+use lib.Seq.{drop-drop}
+use borrow.Author.Tests.{le-ltb}
+use denote.Ref.{now}
+use Rattle.bits.specs.Bytes.{Bytes, bytesFrom}
+use Rattle.bits.specs.Places.{putFrom}
+use Rattle.bits.proofs.Parts.{put-part}
+use Rattle.bits.proofs.Places.{put-all}
+use Rattle.refusal.specs.Written.{noRoom}
+use Rattle.seal.specs.Seal.{resealed}
+use Rattle.seal.proofs.Seals.{resealed-over}
+use Rattle.consist.specs.Consist as consist
+use Rattle.consist.proofs.Answers as consist-answers
+use Rattle.consist.proofs.Sound as consist-sound
+use Rattle.session.specs.declared.Session.{Session}
+use Rattle.session.specs.Session.{isOpen}
+use Rattle.session.proofs.Opened.{opened}
+use Rattle.held.specs.Held.{widths, fieldsOf, bytesOf}
+use Rattle.held.proofs.Answers.{fits}
+use borrow.Author.Needs.{needs}
+use Rattle.stored.proofs.put.Statement.{statement}
+use Rattle.stored.proofs.put.Tie as tie
+
+module _ (x : Session) (o : isOpen x ≡ true) where
+  -- the consist's record fills 16 bytes
+  consist-put : (t : List ℕ) → length t ≡ 16 → consist.writeConsist (x .consist) t .1 ≡ consist.bytesOf (x .consist)
+  unfolding noRoom consist.bytesOf
+  consist-put t e =
+      let c = consist-sound.is-sound (x .consist) (opened x o .tested) in
+      (λ i. consist-answers.write-is (x .consist) t false false false (c .0) (c .1) (le-ltb (length t) 16 (omega (arith, e))) i .1)
+      ∙ (λ i. consist.bytesOf (x .consist) ++ drop-of-length-le t {i = 16} (omega (arith, e)) i)
+      ∙ append-nil (consist.bytesOf (x .consist))
+
+  all-put : (out fields behind whole : List ℕ) → Bytes out → 40 ≤ length out → fields ≡ putFrom 0 widths (fieldsOf x) out
+      → behind ≡ consist.writeConsist (x .consist) (take 16 (drop 20 fields)) .1
+      → whole ≡ resealed (take 40 (take 20 fields ++ (behind ++ drop 16 (drop 20 fields))))
+      → whole ++ drop 40 (take 20 fields ++ (behind ++ drop 16 (drop 20 fields))) ≡ bytesOf x ++ drop 40 out
+  unfolding bytesOf consist.bytesOf
+  all-put out fields behind whole b room f c w =
+      let own = bytesFrom 20 widths (fieldsOf x) in
+      let first : fields ≡ own ++ drop 20 out = f ∙ put-all 20 widths (fieldsOf x) out tt refl (fits x o) b (omega arith) in
+      let l : length (take 16 (drop 20 fields)) ≡ 16 = rw (ap (drop 20) first) (simp (length-take, length-drop) (omega arith)) in
+      let both = put-part out own fields 20 refl first behind 16 ∙ (λ i. (own ++ (c ∙ consist-put (take 16 (drop 20 fields)) l) i) ++ drop 36 out) in
+      let seal = resealed-over (own ++ consist.bytesOf (x .consist)) (take 4 (drop 36 out)) (simp (length-take, length-drop) (omega arith)) in
+      ap₂ _++_ (w ∙ (λ i. resealed (take 40 (both i))) ∙ seal) (ap (drop 40) both ∙ drop-drop 4 36 out)
+
+returns : tie.Need-returns
+returns c =
+    let sealed = c .before .before in
+    let written = sealed .before .before .before .before in
+    let back = written .before .before .before .before in
+    let front = back .before .before .before .before in
+    let start = front .before .before .before in
+    let a = start .before .args in
+    all-put (a .x) (start .before .pre .0) (now (a .out)) _ _ _ (λ i. start .slice-known .given i .fits) (start .before .pre .1)
+    (back .put-back .ensures ∙ ap (putFrom 56 (drop 6 widths) (drop 6 (fieldsOf (a .x)))) (front .put-front .ensures))
+    (λ i. written .write .ensures i .1)
+    (sealed .put-check-word .ensures)
+
+pub put-spec : {M : Type 1} → statement M
+put-spec =
+    tie.close
+    (tie.spec
+    (λ c κs. search needs) (λ c κs. search needs) (λ c. search needs) (λ c. search needs) (λ c. search needs) (λ c κs. search needs)
+    (λ c. search needs) (λ c. search needs) (λ c. search needs) (λ c κs. search needs) (λ c. search needs)
+    returns)

@@ -1,0 +1,4 @@
+-- Laws of the update.
+pub mod Rooms
+pub mod Sound
+pub mod Unique

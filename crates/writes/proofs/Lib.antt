@@ -1,0 +1,2 @@
+-- Laws of what a writer tells.
+pub mod Told

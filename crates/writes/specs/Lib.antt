@@ -1,0 +1,2 @@
+-- The records' writers over plain numbers. Definitions only.
+pub mod Written

@@ -1,0 +1,119 @@
+/*
+ * program.c - the session program: standard input to lines.
+ */
+
+/* What standard input has given before the samples. */
+static struct {
+    unsigned char profile[SECOND_PROFILE_BYTES * SECOND_PROFILE_MOST];
+    unsigned char targets[SECOND_TARGET_BYTES * SECOND_TARGETS_MOST];
+    size_t profile_count, target_count;          /* bytes */
+} second_given;
+
+/* `x` and the number. */
+void second_print_refusal(int refusal)
+{
+    printf("x %d\n", refusal);
+    fflush(stdout);
+}
+
+/* "Each sample prints one line, decimal, single spaces: time, state, penalty,
+ * cause, stopping location as in the record." */
+void second_print_decision(const unsigned char *decision)
+{
+    printf("%ld %ld %ld %ld %ld\n",
+           (long)second_bits(decision, 8, 24), (long)second_bits(decision, 32, 3),
+           (long)second_bits(decision, 35, 1), (long)second_bits(decision, 36, 4),
+           (long)second_bits(decision, 40, 24));
+    fflush(stdout);
+}
+
+/* A whole number of so many bytes, high byte first; `missing` where the input ends before. */
+size_t second_take_number(size_t bytes, size_t missing)
+{
+    unsigned char number[2];
+    if (fread(number, 1, bytes, stdin) != bytes)
+        return missing;
+    return (size_t)second_bits(number, 0, 8 * (int)bytes);
+}
+
+/* "Consist": 0, or what it is refused for. */
+int second_take_consist(second_session *session)
+{
+    unsigned char consist[SECOND_CONSIST_BYTES];
+    size_t count = fread(consist, 1, sizeof consist, stdin);
+    return second_open(session, consist, count);
+}
+
+/* "Two-byte record count (high byte first) and profile": 0, or 6 where it is
+ * broken or short.  Nothing is read on after a count out of range. */
+int second_take_profile(void)
+{
+    static second_profile read;
+    size_t records = second_take_number(2, 0);
+    if (records < SECOND_PROFILE_LEAST || records > SECOND_PROFILE_MOST)
+        return 6;
+    size_t count = records * SECOND_PROFILE_BYTES;
+    second_given.profile_count = count;
+    if (fread(second_given.profile, 1, count, stdin) != count)
+        return 6;
+    return second_read_profile(second_given.profile, count, &read);
+}
+
+/* "One-byte count and targets": 0, or 7 where they are broken or short. */
+int second_take_targets(void)
+{
+    second_targets read;
+    size_t records = second_take_number(1, SECOND_TARGETS_MOST + 1);
+    if (records > SECOND_TARGETS_MOST)
+        return 7;
+    size_t count = records * SECOND_TARGET_BYTES;
+    second_given.target_count = count;
+    if (fread(second_given.targets, 1, count, stdin) != count)
+        return 7;
+    return second_read_targets(second_given.targets, count, &read);
+}
+
+/* "Each sample prints one line ... or `x` and the number.  A short last
+ * sample prints `x 2`." */
+void second_run_samples(second_session *session)
+{
+    unsigned char sample[SECOND_SAMPLE_BYTES];
+    unsigned char decision[SECOND_DECISION_BYTES];
+    size_t count;
+    while ((count = fread(sample, 1, sizeof sample, stdin)) > 0) {
+        int refusal = second_judge(session, sample, count,
+                                   second_given.profile, second_given.profile_count,
+                                   second_given.targets, second_given.target_count,
+                                   decision, sizeof decision);
+        if (refusal == 0)
+            second_print_decision(decision);
+        else
+            second_print_refusal(refusal);
+        if (count < sizeof sample || ferror(stdout))
+            break;
+    }
+}
+
+/* "The session program reads standard input: consist, two-byte record count
+ * (high byte first) and profile, one-byte count and targets, then samples.  A
+ * refused consist prints `x` and its number and ends; a broken or short profile
+ * prints `x 6`, targets `x 7`, and end."  Its status is 0, or 1 where the output
+ * could not be written (decision 41). */
+int main(void)
+{
+    static second_session session;
+
+    /* Nothing is taken from standard input before it is needed. */
+    setvbuf(stdin, NULL, _IONBF, 0);
+
+    int refusal = second_take_consist(&session);
+    if (refusal == 0)
+        refusal = second_take_profile();
+    if (refusal == 0)
+        refusal = second_take_targets();
+    if (refusal != 0)
+        second_print_refusal(refusal);
+    else
+        second_run_samples(&session);
+    return ferror(stdout) ? 1 : 0;
+}

@@ -1,0 +1,135 @@
+/*
+ * records.c - the section "Records": each record's layout and the rules for it.
+ */
+
+enum {
+    SECOND_LAST_FOOT = 4000000,      /* the highest start and target location */
+    SECOND_SAMPLE_MARK = 0x53,
+    SECOND_DECISION_MARK = 0x44
+};
+
+/* "Consist, 16 bytes": 2, 4 or 5 when it is refused. */
+int second_read_consist(const unsigned char *bytes, size_t count, second_consist *train)
+{
+    if (count != SECOND_CONSIST_BYTES)
+        return 2;
+    train->cars = second_bits(bytes, 0, 9);
+    train->axles = second_bits(bytes, 9, 11);
+    train->weight = second_bits(bytes, 20, 15);
+    train->length = second_bits(bytes, 35, 15);
+    train->rated = second_bits(bytes, 50, 24);
+    train->application = second_bits(bytes, 74, 18);
+    train->recharge = second_bits(bytes, 92, 10);
+    train->set = second_bits(bytes, 102, 14);
+    train->offset = second_bits(bytes, 116, 12);
+    if (train->cars < 1 || train->cars > 250
+        || train->axles < 2 || train->axles > 2000
+        || train->weight < 10 || train->weight > 30000
+        || train->length < 50 || train->length > 20000
+        || train->rated > 10000000
+        || train->application < 1000 || train->application > 240000
+        || train->recharge < 1 || train->recharge > 1000
+        || train->set < 7000 || train->set > 11000
+        || train->offset > 4000)
+        return 4;
+    if (train->weight < 10 * train->cars)
+        return 5;
+    return 0;
+}
+
+/* "Profile, 6 bytes a record, 2 to 257 records ...": 6 when a rule is broken. */
+int second_read_profile(const unsigned char *bytes, size_t count, second_profile *profile)
+{
+    if (count % SECOND_PROFILE_BYTES != 0
+        || count / SECOND_PROFILE_BYTES < SECOND_PROFILE_LEAST
+        || count / SECOND_PROFILE_BYTES > SECOND_PROFILE_MOST)
+        return 6;
+    profile->records = (int64_t)(count / SECOND_PROFILE_BYTES);
+    for (int64_t i = 0; i < profile->records; i++) {
+        const unsigned char *record = bytes + i * SECOND_PROFILE_BYTES;
+        profile->start[i] = second_bits(record, 0, 24);
+        profile->grade[i] = second_signed_bits(record, 24, 11);
+        profile->curve[i] = second_bits(record, 35, 11);
+        if (second_bits(record, 46, 2) != 0)
+            return 6;
+        if (profile->start[i] > SECOND_LAST_FOOT)
+            return 6;
+        if (profile->grade[i] < -500 || profile->grade[i] > 500)
+            return 6;
+        if (profile->curve[i] > 2000)
+            return 6;
+        if (i > 0 && profile->start[i] <= profile->start[i - 1])
+            return 6;
+    }
+    /* "The last only ends the profile; its grade and curvature are zero." */
+    if (profile->grade[profile->records - 1] != 0 || profile->curve[profile->records - 1] != 0)
+        return 6;
+    return 0;
+}
+
+/* "Targets, 5 bytes a record, 0 to 8 records ...": 7 when a rule is broken. */
+int second_read_targets(const unsigned char *bytes, size_t count, second_targets *targets)
+{
+    if (count % SECOND_TARGET_BYTES != 0 || count / SECOND_TARGET_BYTES > SECOND_TARGETS_MOST)
+        return 7;
+    targets->records = (int64_t)(count / SECOND_TARGET_BYTES);
+    for (int64_t i = 0; i < targets->records; i++) {
+        const unsigned char *record = bytes + i * SECOND_TARGET_BYTES;
+        targets->location[i] = second_bits(record, 0, 24);
+        targets->speed[i] = second_bits(record, 24, 16);
+        if (targets->location[i] > SECOND_LAST_FOOT || targets->speed[i] > 10000)
+            return 7;
+        if (i > 0 && targets->location[i] <= targets->location[i - 1])
+            return 7;
+    }
+    return 0;
+}
+
+/* "3: a wrong mark; a spare bit set, or rear lost with rear bits not zero." */
+int second_sample_well_formed(const unsigned char *bytes)
+{
+    if (second_bits(bytes, 0, 8) != SECOND_SAMPLE_MARK)
+        return 0;
+    if (second_bits(bytes, 33, 7) != 0)
+        return 0;
+    if (second_bits(bytes, 32, 1) == 0 && second_bits(bytes, 128, 32) != 0)
+        return 0;
+    return 1;
+}
+
+/* "8: a present reading is NaN, infinite, below zero, speed above 100 or
+ * pressure above 160."  A lost rear is not judged (decision 8). */
+int second_readings_in_range(const unsigned char *bytes)
+{
+    if (!second_reading_in_range(second_bits(bytes, 64, 32), 0x42C80000))
+        return 0;
+    if (!second_reading_in_range(second_bits(bytes, 96, 32), 0x43200000))
+        return 0;
+    if (second_bits(bytes, 32, 1) == 1
+        && !second_reading_in_range(second_bits(bytes, 128, 32), 0x43200000))
+        return 0;
+    return 1;
+}
+
+/* "Sample, 20 bytes", already judged, into numbers. */
+void second_read_sample(const unsigned char *bytes, second_sample *sample)
+{
+    sample->time = second_bits(bytes, 8, 24);
+    sample->rear_present = second_bits(bytes, 32, 1) == 1;
+    sample->head = second_bits(bytes, 40, 24);
+    sample->speed = second_hundredths_up(second_bits(bytes, 64, 32));
+    sample->front = second_hundredths_down(second_bits(bytes, 96, 32));
+    sample->rear = sample->rear_present ? second_hundredths_down(second_bits(bytes, 128, 32)) : 0;
+}
+
+/* "Decision, 8 bytes." */
+void second_write_decision(unsigned char *output, int64_t time, int64_t state, int64_t cause,
+                           int64_t stop)
+{
+    second_put_bits(output, 0, 8, SECOND_DECISION_MARK);
+    second_put_bits(output, 8, 24, time);
+    second_put_bits(output, 32, 3, state);
+    second_put_bits(output, 35, 1, cause != 0);
+    second_put_bits(output, 36, 4, cause);
+    second_put_bits(output, 40, 24, stop);
+}

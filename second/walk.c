@@ -1,0 +1,158 @@
+/*
+ * walk.c - the section "The walk": the walk itself, and the judgement of targets.
+ */
+
+enum {
+    SECOND_STEP_FEET = 16,
+    SECOND_STEPS = 2048,
+    SECOND_REACH = SECOND_STEP_FEET * SECOND_STEPS,   /* 32,768 ft */
+    SECOND_SQUARE_LIMIT = 1000000000
+};
+
+/* ---------------------------------------------------------------- the walk */
+
+/* "Train from head minus length to head.  G and C are the sums of grade x feet
+ * and curvature x feet under the train, over its length, each down." */
+void second_averages(const second_profile *profile, int64_t head, int64_t length,
+                     int64_t *grade, int64_t *curve)
+{
+    int64_t grade_feet = 0;
+    int64_t curve_feet = 0;
+    for (int64_t i = 0; i + 1 < profile->records; i++) {
+        int64_t from = second_greatest(profile->start[i], head - length);
+        int64_t to = second_least(profile->start[i + 1], head);
+        if (to > from) {
+            grade_feet += profile->grade[i] * (to - from);
+            curve_feet += profile->curve[i] * (to - from);
+        }
+    }
+    *grade = (int64_t)second_down(grade_feet, length);
+    *curve = (int64_t)second_down(curve_feet, length);
+}
+
+/* "Drop = 2 x set x t / (7 x application time), down, not more than A minus
+ * (5A + 2B)/7 (the quotient down), not below 0.  Cylinder p = B + 5/2 drop,
+ * down." */
+int64_t second_cylinder(const second_consist *train, int64_t a, int64_t b, int64_t t)
+{
+    int64_t drop = (int64_t)second_down((second_wide)2 * train->set * t, 7 * train->application);
+    drop = second_least(drop, a - second_service_equalization(a, b));
+    drop = second_greatest(drop, 0);
+    return b + 5 * drop / 2;
+}
+
+/* "Brake force F = rated x p / 6,400, down." */
+int64_t second_brake_force(const second_consist *train, int64_t cylinder)
+{
+    return (int64_t)second_down((second_wide)train->rated * cylinder, 6400);
+}
+
+/* "Opposing force in millionths of a lb: 1,000,000 F + 600,000 W +
+ * 20,000,000 n + 100 W s + 7 N q + 200,000 W G + 8,000 W C." */
+second_wide second_opposing(const second_consist *train, int64_t force, int64_t s, int64_t q,
+                            int64_t grade, int64_t curve)
+{
+    second_wide weight = train->weight;
+    return (second_wide)1000000 * force
+         + 600000 * weight
+         + (second_wide)20000000 * train->axles
+         + 100 * weight * s
+         + (second_wide)7 * train->cars * q
+         + 200000 * weight * grade
+         + 8000 * weight * curve;
+}
+
+/* "q loses 1,449 x that / (605,000 W), down, rounded here only.  It may
+ * gain." */
+int64_t second_loss(const second_consist *train, second_wide opposing)
+{
+    return (int64_t)second_down(1449 * opposing, (second_wide)605000 * train->weight);
+}
+
+/* "t gains 12,000,000 / (11 s) ms, down." */
+int64_t second_step_time(int64_t s)
+{
+    return 12000000 / (11 * s);
+}
+
+/* "The walk starts after the update, with A, B and clock t = 0, squared speed
+ * q = speed squared.  Steps of 16 ft, at most 2,048, made while q is above 0.
+ * The stopping location is the head when q first is 0 or less.  The location
+ * for a target speed is the head when q first is at or below that speed
+ * squared."  One walk for one limit; the stop's limit is 0.  Without a location
+ * *location is SECOND_NO_STOP.  The answer is 0, or "11: the walk's squared
+ * speed exceeds 1,000,000,000". */
+int second_walk(const second_session *session, const second_sample *sample,
+                const second_profile *profile, int64_t limit, int64_t *location)
+{
+    const second_consist *train = &session->train;
+    int64_t head = sample->head;
+    int64_t q = sample->speed * sample->speed;
+    int64_t t = 0;
+
+    for (int step = 0; step < SECOND_STEPS && q > limit * limit; step++) {
+        int64_t s = second_root(q);
+        int64_t grade, curve;
+        second_averages(profile, head, train->length, &grade, &curve);
+        int64_t cylinder = second_cylinder(train, session->brakes.a, session->brakes.b, t);
+        int64_t force = second_brake_force(train, cylinder);
+        second_wide opposing = second_opposing(train, force, s, q, grade, curve);
+
+        q -= second_loss(train, opposing);
+        t += second_step_time(s);
+        head += SECOND_STEP_FEET;
+        if (q > SECOND_SQUARE_LIMIT)
+            return 11;
+    }
+    *location = q <= limit * limit ? head : SECOND_NO_STOP;
+    return 0;
+}
+
+/* --------------------------------------------------------------- judgement */
+
+/* "Its offset is offset x (v^2 - u^2) / v^2 rounded up, with v the train's and
+ * u the target's speed; 0 where v is not above u." */
+int64_t second_target_offset(int64_t offset, int64_t v, int64_t u)
+{
+    if (v <= u)
+        return 0;
+    return (int64_t)second_up((second_wide)offset * (v * v - u * u), v * v);
+}
+
+/* "A target is judged if it lies from head to head plus 32,768, both included.
+ * The penalty is called when location plus offset is greater than the target.
+ * Without [a location] there is none, and it counts as beyond every target."
+ * Sets *called; the answer is 0 or 11. */
+int second_judge_target(const second_session *session, const second_sample *sample,
+                        const second_profile *profile, int64_t target, int64_t speed,
+                        int *called)
+{
+    int64_t location;
+    *called = 0;
+    if (target < sample->head || target > sample->head + SECOND_REACH)
+        return 0;
+    int refusal = second_walk(session, sample, profile, speed, &location);
+    if (refusal != 0)
+        return refusal;
+    int64_t offset = second_target_offset(session->train.offset, sample->speed, speed);
+    *called = location == SECOND_NO_STOP || location + offset > target;
+    return 0;
+}
+
+/* The stopping location, and "the cause is the first such target".  A walk of
+ * its own for the stop and for each target. */
+int second_predict(const second_session *session, const second_sample *sample,
+                   const second_profile *profile, const second_targets *targets,
+                   second_prediction *prediction)
+{
+    prediction->cause = 0;
+    int refusal = second_walk(session, sample, profile, 0, &prediction->stop);
+    for (int64_t i = 0; refusal == 0 && prediction->cause == 0 && i < targets->records; i++) {
+        int called;
+        refusal = second_judge_target(session, sample, profile, targets->location[i],
+                                      targets->speed[i], &called);
+        if (called)
+            prediction->cause = i + 1;
+    }
+    return refusal;
+}

@@ -1,0 +1,65 @@
+"""What the tests compile: each program once a run of the tests, however many of them use it."""
+
+import atexit
+import ctypes
+import functools
+import os
+import shutil
+import subprocess
+import tempfile
+
+from here import ROOT
+
+SECOND = os.path.join(ROOT, "second", "second.c")
+COMPILE = ["gcc", "-std=c11", "-Wall", "-Wextra", "-Werror"]
+
+
+@functools.cache
+def place():
+    """A folder for what is made, gone when the tests end."""
+    made = tempfile.mkdtemp()
+    atexit.register(shutil.rmtree, made)
+    return made
+
+
+@functools.cache
+def compiled(source, *words):
+    """A source's object, for programs that share it."""
+    path = os.path.join(place(), os.path.basename(source) + ".o")
+    subprocess.run([*COMPILE, "-O2", *words, "-c", "-o", path, source], check=True)
+    return path
+
+
+def build(name, *words):
+    path = os.path.join(place(), name)
+    subprocess.run([*COMPILE, "-o", path, *words], check=True)
+    return path
+
+
+def library(name, *words):
+    """A shared library, loaded."""
+    return ctypes.CDLL(build(name, "-O2", "-shared", "-fPIC", *words))
+
+
+@functools.cache
+def second():
+    """The second program."""
+    return build("second", "-O2", SECOND)
+
+
+@functools.cache
+def core():
+    """The second program's core, its functions to be called one by one."""
+    made = library("core.so", "-DSECOND_NO_MAIN", SECOND, os.path.join(ROOT, "tests", "loss.c"))
+    for name in ("root", "hundredths_up", "hundredths_down", "service_equalization", "nominal",
+                 "cylinder", "brake_force", "step_time", "target_offset", "bits"):
+        getattr(made, "second_" + name).restype = ctypes.c_int64
+    made.loss_of.restype = ctypes.c_int64
+    return made
+
+
+@functools.cache
+def checked():
+    """The second program with sanitizers, for many feeds in one run."""
+    return build("checked", "-O1", "-g", "-fsanitize=undefined,address", "-fno-sanitize-recover=all",
+                 "-Dmain=second_main", SECOND, os.path.join(ROOT, "tests", "many.c"))

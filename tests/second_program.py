@@ -1,0 +1,96 @@
+"""What the tests of second/ share: feeds in few words, what the program prints for them, and the core's structs.
+
+The expected values of those tests are worked by hand from document 01; the comments give the arithmetic.  h is a hundredth,
+and "decision 15" is a point of docs/DECISIONS.md.
+"""
+
+import ctypes
+import subprocess
+
+import built
+from here import feeds
+
+TRAIN = {"cars": 10, "axles": 40, "weight": 1000, "length": 600, "rated": 200000,
+         "application": 30000, "recharge": 50, "set": 9000, "offset": 500}
+LEVEL = "profile 0\nprofile 40000\n"
+# The samples of 01's case: time, head, mph, front, rear.
+CASE = ((0, 5000, "0.0", "90.0", "90.0"), (1, 5000, "1.0", "90.0", "90.0"),
+        (2, 5001, "0.0", "90.0", "90.0"))
+
+
+def run(data):
+    """What the program prints for a feed."""
+    done = subprocess.run([built.second()], input=data, stdout=subprocess.PIPE,
+                          stderr=subprocess.PIPE, check=False)
+    if done.returncode != 0 or done.stderr:
+        raise AssertionError("status %d: %s" % (done.returncode, done.stderr.decode()))
+    return done.stdout.decode()
+
+
+def psi(hundredths):
+    """A decimal that counts as so many hundredths of a psi, rounded down."""
+    return "%d.%02d5" % divmod(hundredths, 100)
+
+
+def mph(hundredths):
+    """A decimal that counts as so many hundredths of a mph, rounded up."""
+    if hundredths == 0:
+        return "0.0"
+    return "%d.%02d5" % divmod(hundredths - 1, 100)
+
+
+def made(samples, profile=LEVEL, targets="", **train):
+    """A whole feed; samples are (time, head, mph, front, rear) words or lines."""
+    values = dict(TRAIN, **train)
+    lines = ["%s %d" % item for item in values.items()] + [profile, targets]
+    for one in samples:
+        if not isinstance(one, str):
+            one = "sample %s head %s speed %s front %s rear %s" % one
+        lines.append(one)
+    return feeds.make("\n".join(lines) + "\n")
+
+
+def printed(samples, **more):
+    """The lines for such a feed."""
+    return run(made(samples, **more)).splitlines()
+
+
+def one_line(head="5000", speed="0.0", front="90.0", rear="90.0", **more):
+    """The line for one sample, standing unless it is told otherwise."""
+    return printed([(0, head, speed, front, rear)], **more)[0]
+
+
+# ------------------------------------------------------- second.h, for calls of the core
+
+class Consist(ctypes.Structure):
+    _fields_ = [(name, ctypes.c_int64) for name in (
+        "cars", "axles", "weight", "length", "rated", "application", "recharge", "set", "offset")]
+
+
+CONSIST = Consist(**TRAIN)
+
+
+class Brakes(ctypes.Structure):
+    _fields_ = [(name, ctypes.c_int64) for name in (
+        "state", "hold", "a", "b", "equalization", "fall", "last_front", "last_rear",
+        "last_time")]
+
+
+class Session(ctypes.Structure):
+    _fields_ = [("open", ctypes.c_int), ("begun", ctypes.c_int), ("train", Consist),
+                ("brakes", Brakes), ("cause", ctypes.c_int64)]
+
+
+class Profile(ctypes.Structure):
+    _fields_ = [("records", ctypes.c_int64)] + [
+        (name, ctypes.c_int64 * 257) for name in ("start", "grade", "curve")]
+
+
+class Sample(ctypes.Structure):
+    _fields_ = [(name, ctypes.c_int64) for name in ("time", "head", "speed", "front", "rear")] \
+        + [("rear_present", ctypes.c_int)]
+
+
+def whole(*numbers):
+    """Numbers as arguments."""
+    return [ctypes.c_int64(number) for number in numbers]

@@ -1,0 +1,98 @@
+"""Tests of what a customer mounts, over a stand-in for the archive (standin.c): python3 -m unittest discover -s tests"""
+
+import os
+import re
+import subprocess
+import unittest
+
+import built
+from here import EXAMPLES, ROOT
+from feeds import random_feed
+
+FLAGS = ["-DSECOND_NO_MAIN", "-I" + os.path.join(ROOT, "include")]
+HEADER = os.path.join(ROOT, "include", "buongilach.h")
+STANDIN = os.path.join(ROOT, "tests", "standin.c")
+HOSTILE = sorted(os.path.join(EXAMPLES, "hostile", name) for name in os.listdir(os.path.join(EXAMPLES, "hostile"))
+                 if name.endswith(".c"))
+# The stand-in takes its answers from the rules that hostile expects.
+EXPECTED = os.path.join(EXAMPLES, "hostile", "expected.c")
+
+
+def build(name, *sources):
+    """A program over the stand-in, whose parts are compiled once for all."""
+    parts = dict.fromkeys([*sources, STANDIN, EXPECTED, built.SECOND])
+    return built.build(name, *[built.compiled(part, *FLAGS) if part.endswith(".c") else part for part in parts])
+
+
+def lines(program, given=b""):
+    return subprocess.run([program], input=given, stdout=subprocess.PIPE, check=True, timeout=60).stdout
+
+
+class Header(unittest.TestCase):
+
+    def test_c_and_cpp(self):
+        for words in (["gcc", "-std=c11", "-x", "c"], ["g++", "-std=c++11", "-x", "c++"], ["g++", "-std=c++20", "-x", "c++"]):
+            with self.subTest(words=words):
+                subprocess.run([*words, "-pedantic", "-Wall", "-Wextra", "-Werror", "-fsyntax-only", HEADER], check=True)
+
+
+class Examples(unittest.TestCase):
+
+    @classmethod
+    def setUpClass(cls):
+        cls.mounted = build("mounted", os.path.join(EXAMPLES, "mounted.c"))
+        cls.case = build("case", os.path.join(EXAMPLES, "case.c"))
+        cls.second = built.second()
+
+    def test_mounted_prints_what_second_prints(self):
+        feeds = [random_feed(seed) for seed in range(120)]
+        whole = random_feed(0, "trip")
+        feeds += [whole[:length] for length in range(0, 16 + 2 + 6 * 3 + 1)] + [whole[:-1], b""]
+        for number, given in enumerate(feeds):
+            with self.subTest(number=number):
+                self.assertEqual(lines(self.mounted, given), lines(self.second, given))
+
+    def test_case(self):
+        self.assertEqual(lines(self.case), b"0 0 0 0 5000\n1 0 1 1 5032\n2 0 1 1 5001\n")
+
+    def test_case_in_cpp(self):
+        made = os.path.join(built.place(), "case-cpp.o")
+        subprocess.run(["g++", "-Wall", "-Wextra", "-Werror", "-I" + os.path.dirname(HEADER), "-c", "-o", made, "-x", "c++",
+                        os.path.join(EXAMPLES, "case.c")], check=True)
+        self.assertEqual(lines(build("case-cpp", made)), lines(self.case))
+
+    def test_the_page_shows_the_case(self):
+        with open(os.path.join(ROOT, "docs", "MOUNTING.md"), encoding="utf-8") as file:
+            shown = re.findall(r"```c\n(.*?)```", file.read(), re.S)
+        with open(os.path.join(EXAMPLES, "case.c"), encoding="utf-8") as file:
+            self.assertEqual(shown, [file.read()])
+
+
+class Hostile(unittest.TestCase):
+
+    @classmethod
+    def setUpClass(cls):
+        cls.hostile = build("hostile", *HOSTILE)
+
+    def run_hostile(self, fault):
+        return subprocess.run([self.hostile], env={**os.environ, "PLANTED": fault}, stdout=subprocess.PIPE,
+                              stderr=subprocess.PIPE, check=False, timeout=300)
+
+    def test_no_fault(self):
+        done = self.run_hostile("")
+        self.assertEqual(done.returncode, 0, done.stderr)
+        self.assertRegex(done.stdout, rb"^hostile: \d+ calls, 0 faults; ")
+
+    def test_every_planted_fault_is_found(self):
+        with open(STANDIN, encoding="utf-8") as file:
+            faults = re.findall(r'planted\("(.*?)"\)', file.read())
+        self.assertGreater(len(faults), 20)
+        for fault in faults:
+            with self.subTest(fault=fault):
+                done = self.run_hostile(fault)
+                self.assertEqual(done.returncode, 1)
+                self.assertIn(b"hostile: ", done.stderr)
+
+
+if __name__ == "__main__":
+    unittest.main()

@@ -1,0 +1,109 @@
+"""Tests of the second program: how it reads standard input, and that it has no undefined behaviour."""
+
+import os
+import random
+import select
+import subprocess
+import tempfile
+import unittest
+
+import built
+from here import feeds
+from second_program import CASE, made, run
+
+# 16 consist, 2 + 12 profile, 1 + 5 targets, samples from 36 on.
+WHOLE = made(CASE[:2], targets="target 5531 speed 0")
+
+
+class Program(unittest.TestCase):
+    """The reading of standard input."""
+
+    def test_cut_at_every_byte(self):
+        for end in range(len(WHOLE) + 1):
+            if end < 16:
+                want = "x 2\n"
+            elif end < 30:
+                want = "x 6\n"
+            elif end < 36:
+                want = "x 7\n"
+            else:
+                want = "".join(["0 0 0 0 5000\n", "1 0 1 1 5032\n"][:(end - 36) // 20])
+                if (end - 36) % 20:
+                    want += "x 2\n"
+            with self.subTest(end=end):
+                self.assertEqual(run(WHOLE[:end]), want)
+
+    def test_refused_consist_ends(self):
+        self.assertEqual(run(bytes(16) + WHOLE[16:]), "x 4\n")
+
+    def test_broken_profile_ends(self):
+        self.assertEqual(run(WHOLE[:29] + b"\1" + WHOLE[30:]), "x 6\n")
+
+    def test_broken_targets_end(self):
+        self.assertEqual(run(WHOLE[:31] + b"\xff" + WHOLE[32:]), "x 7\n")
+
+    def test_refused_sample_does_not_end(self):
+        data = WHOLE[:36] + b"\0" * 20 + WHOLE[36:]
+        self.assertEqual(run(data), "x 3\n0 0 0 0 5000\n1 0 1 1 5032\n")
+
+    def test_nothing_is_read_on(self):
+        # (feed, how many bytes are needed to know the answer)
+        after = b"\0" * 5000
+        for data, needed in (
+                (bytes(16), 16),
+                (WHOLE[:16] + b"\0\1", 18),
+                (WHOLE[:16] + b"\1\2", 18),
+                (WHOLE[:30] + b"\x09", 31),
+                (WHOLE[:31] + b"\xff" + WHOLE[32:36], 36)):
+            with tempfile.TemporaryFile() as file:
+                file.write(data + after)
+                file.flush()
+                os.lseek(file.fileno(), 0, os.SEEK_SET)
+                subprocess.run([built.second()], stdin=file, stdout=subprocess.DEVNULL, check=True)
+                self.assertEqual(os.lseek(file.fileno(), 0, os.SEEK_CUR), needed)
+
+    def test_a_line_as_soon_as_its_sample(self):
+        with subprocess.Popen([built.second()], stdin=subprocess.PIPE, stdout=subprocess.PIPE,
+                              bufsize=0) as child:
+            child.stdin.write(WHOLE[:55])
+            self.assertEqual(select.select([child.stdout], [], [], 0.1)[0], [])
+            child.stdin.write(WHOLE[55:56])
+            self.assertTrue(select.select([child.stdout], [], [], 10)[0])
+            self.assertEqual(child.stdout.read(100), b"0 0 0 0 5000\n")
+            child.stdin.write(WHOLE[56:])
+            self.assertTrue(select.select([child.stdout], [], [], 10)[0])
+            self.assertEqual(child.stdout.read(100), b"1 0 1 1 5032\n")
+            child.stdin.close()
+            self.assertEqual(child.stdout.read(100), b"")
+
+
+class Sanitized(unittest.TestCase):
+    """No undefined behaviour: the program built with sanitizers says the same."""
+
+    def same(self, given):
+        names = [os.path.join(built.place(), name) for name in ("feeds", "one")]
+        with open(names[0], "wb") as file:
+            for data in given:
+                file.write(len(data).to_bytes(4, "big") + data)
+        # the search for leaks takes seconds, and nothing is allocated
+        done = subprocess.run([built.checked(), *names], stdout=subprocess.PIPE, stderr=subprocess.PIPE, check=False,
+                              env=dict(os.environ, ASAN_OPTIONS="detect_leaks=0"))
+        self.assertEqual((done.returncode, done.stderr), (0, b""))
+        self.assertEqual(done.stdout.decode(), "".join(run(data) + "end\n" for data in given))
+
+    def test_random_feeds(self):
+        self.same([feeds.random_feed(seed) for seed in range(300)])
+
+    def test_garbage(self):
+        draw = random.Random(5)
+        given = []
+        for number in range(600):
+            data = bytes(draw.getrandbits(8) for _ in range(draw.getrandbits(7)))
+            if number % 3:
+                data = WHOLE[:draw.choice((16, 18, 30, 31, 36, 56))] + data
+            given.append(data)
+        self.same(given)
+
+
+if __name__ == "__main__":
+    unittest.main()

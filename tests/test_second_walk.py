@@ -1,0 +1,163 @@
+"""Tests of the second program: the functions of a step, and whole walks."""
+
+import ctypes
+import math
+import random
+import unittest
+
+from built import core
+from second_program import CONSIST, Brakes, Profile, Sample, Session, mph, one_line, printed, whole
+
+
+class Step(unittest.TestCase):
+    """The figures of 01."""
+
+    def test_cylinder_and_force(self):
+        train = ctypes.byref(CONSIST)
+        self.assertEqual(core().second_cylinder(train, *whole(9000, 0, 1090)), 232)
+        self.assertEqual(core().second_brake_force(train, *whole(232)), 7250)
+        # The cap: 9,000 - 6,428 = 2,572, and 5/2 of that.
+        self.assertEqual(core().second_cylinder(train, *whole(9000, 0, 10 ** 9)), 6430)
+        # A cap below zero is a drop of 0: 6,032 - 43,018 / 7 = -113.
+        self.assertEqual(core().second_cylinder(train, *whole(6032, 6429, 10 ** 9)), 6429)
+
+    def averages(self, records, head, length):
+        profile = Profile(records=len(records))
+        for i, (start, grade, curve) in enumerate(records):
+            profile.start[i], profile.grade[i], profile.curve[i] = start, grade, curve
+        grade, curve = ctypes.c_int64(), ctypes.c_int64()
+        core().second_averages(ctypes.byref(profile), *whole(head, length), ctypes.byref(grade),
+                               ctypes.byref(curve))
+        return grade.value, curve.value
+
+    def test_averages(self):
+        crest = [(0, 50, 10), (51, -53, 0), (1000, 0, 0)]
+        self.assertEqual(self.averages(crest, 100, 100), (-1, 5))       # -47, 510
+        self.assertEqual(self.averages(crest, 51, 51), (50, 10))
+        self.assertEqual(self.averages(crest, 151, 100), (-53, 0))
+        self.assertEqual(self.averages([(0, -1, 1), (1, 0, 0), (9, 0, 0)], 9, 9), (-1, 0))
+
+    def test_loss(self):
+        # Force 0, s 1,000, q 1,000,000, grade, curve 0.
+        train = ctypes.byref(CONSIST)
+        self.assertEqual(core().loss_of(train, *whole(0, 1000, 1000000, 0, 0)), 3760)
+        self.assertEqual(core().loss_of(train, *whole(0, 1000, 1000000, -100, 0)), -44141)
+        # Curve 100: 8,000 x 1,000 x 100 = 800,000,000 more: 2,370,000,000 gives 5,676.
+        self.assertEqual(core().loss_of(train, *whole(0, 1000, 1000000, 0, 100)), 5676)
+        # Force 7,250: 8,820,000,000 gives 21,124.
+        self.assertEqual(core().loss_of(train, *whole(7250, 1000, 1000000, 0, 0)), 21124)
+
+    def test_step_time(self):
+        self.assertEqual(core().second_step_time(*whole(1)), 1090909)
+        self.assertEqual(core().second_step_time(*whole(10000)), 109)
+
+    def test_root(self):
+        draw = random.Random(3)
+        for q in [0, 1, 2, 3, 4, 999999999, 10 ** 9] + [draw.randrange(10 ** 9) for _ in range(999)]:
+            root = core().second_root(*whole(q))
+            self.assertTrue(root * root <= q < (root + 1) * (root + 1))
+
+
+class Walk(unittest.TestCase):
+
+    def test_walk_that_gets_too_fast(self):
+        # 11: no profile within the rules does it; a grade of -90 % does.
+        session = Session(open=1, train=CONSIST, brakes=Brakes(a=9000))
+        sample = Sample(head=5000, speed=10000)
+        profile = Profile(records=2)
+        profile.start[1], profile.grade[0] = 40000, -9000
+        location = ctypes.c_int64()
+        self.assertEqual(core().second_walk(ctypes.byref(session), ctypes.byref(sample),
+                                            ctypes.byref(profile), *whole(0),
+                                            ctypes.byref(location)), 11)
+        profile.grade[0] = -500
+        self.assertEqual(core().second_walk(ctypes.byref(session), ctypes.byref(sample),
+                                            ctypes.byref(profile), *whole(0),
+                                            ctypes.byref(location)), 0)
+
+    def test_standing_train_downhill(self):
+        # Decision 25: no step.
+        self.assertEqual(one_line(speed=mph(0), profile="profile 0 grade -500\nprofile 40000"),
+                         "0 0 0 0 5000")
+
+    def test_last_step(self):
+        # The train of the case without brakes, on the level: it loses 1449 x
+        # (1,400,000,000 + 100,000 s + 70 q) / 605,000,000 a step.  The greatest speed that
+        # stops within 2,048 steps is found by trying; a hundredth more finds no stop.
+        def steps(speed):
+            q, count = speed * speed, 0
+            while q > 0 and count < 2049:
+                q -= 1449 * (1400000000 + 100000 * math.isqrt(q) + 70 * q) // 605000000
+                count += 1
+            return count
+
+        low, high = 2000, 4000
+        self.assertTrue(steps(low) <= 2048 < steps(high))
+        while high - low > 1:
+            middle = (low + high) // 2
+            low, high = (middle, high) if steps(middle) <= 2048 else (low, middle)
+        stop = 5000 + 16 * steps(low)
+        self.assertEqual(one_line(speed=mph(low), rated=0), "0 0 0 0 %d" % stop)
+        self.assertEqual(one_line(speed=mph(high), rated=0), "0 0 0 0 16777215")
+        # The missing location calls a target at the very reach; the found one does not.
+        more = {"rated": 0, "offset": 0, "targets": "target 37768 speed 0"}
+        self.assertEqual(one_line(speed=mph(low), **more), "0 0 0 0 %d" % stop)
+        self.assertEqual(one_line(speed=mph(high), **more), "0 0 1 1 16777215")
+
+    def test_stop_at_the_last_step(self):
+        # The same, but for a weight where some speed stops at step 2,048 exactly: there
+        # the location is the head plus 32,768.
+        def steps(weight, speed):
+            q, count = speed * speed, 0
+            level = 600000 * weight + 800000000
+            while q > 0 and count < 2049:
+                q -= 1449 * (level + 100 * weight * math.isqrt(q) + 70 * q) // (605000 * weight)
+                count += 1
+            return count
+
+        for weight in range(1000, 1100):
+            low, high = 2000, 4000
+            while high - low > 1:
+                middle = (low + high) // 2
+                low, high = (middle, high) if steps(weight, middle) <= 2048 else (low, middle)
+            if steps(weight, low) == 2048:
+                break
+        self.assertEqual(steps(weight, low), 2048)
+        more = {"rated": 0, "weight": weight, "offset": 0, "targets": "target 37768 speed 0"}
+        self.assertEqual(one_line(speed=mph(low), **more), "0 0 0 0 37768")
+        self.assertEqual(one_line(speed=mph(high), **more), "0 0 1 1 16777215")
+        more["offset"] = 1
+        self.assertEqual(one_line(speed=mph(low), **more), "0 0 1 1 37768")
+
+    def test_brakes_already_applied(self):
+        # Held at A 8,500 and B 1,247 (HELD of test_second_states), 10.00 mph, q 1,000,000.  The loss
+        # is (1,000,000 F + 1,400,000,000 + 100,000 s + 70 q) x 1,449 / 605,000,000.
+        #        s    drop     p       F     loss        q       t
+        # 1  1,000       0  1,247  38,968   97,090  902,910   1,090
+        # 2    950      93  1,479  46,218  114,425  788,485   2,238
+        # 3    887     191  1,724  53,875  132,730  655,755   3,467
+        # 4    809     297  1,989  62,156  152,522  503,233   4,815
+        # 5    709     412  2,277  71,156  174,028  329,205   6,353
+        # 6    573     544  2,607  81,468  198,664  130,541   8,256
+        # 7    361     707  3,014  94,187  229,043 stops it: 7 x 16 = 112 ft.
+        samples = [(0, 5000, "0.0", "90.0", "90.0"), (1, 5000, "0.0", "85.0", "85.0"),
+                   (6, 5000, "0.0", "85.0", "85.0"), (7, 5000, mph(1000), "85.0", "85.0")]
+        samples[2:2] = [(i, 5000, "0.0", "85.0", "85.0") for i in range(2, 6)]
+        self.assertEqual(printed(samples)[-1], "7 2 0 0 5112")
+        # Charged, with A 9,000 and B 0:
+        #  1  1,000       0      0       0    3,760  996,240   1,090
+        #  2    998      93    232   7,250   21,123  975,117   2,183
+        #  3    987     187    467  14,593   38,703  936,414   3,288
+        #  4    967     281    702  21,937   56,281  880,133   4,416
+        #  5    938     378    945  29,531   74,453  805,680   5,579
+        #  6    897     478  1,195  37,343   93,140  712,540   6,795
+        #  7    844     582  1,455  45,468  112,572  599,968   8,087
+        #  8    774     693  1,732  54,125  133,270  466,698   9,496
+        #  9    683     813  2,032  63,500  155,680  311,018  11,093
+        # 10    557     950  2,375  74,218  181,293  129,725  13,051
+        # 11    360   1,118  2,795  87,343  212,651 stops it: 176 ft.
+        self.assertEqual(one_line(speed=mph(1000)), "0 0 0 0 5176")
+
+
+if __name__ == "__main__":
+    unittest.main()

@@ -1,0 +1,36 @@
+"""The kinds of random feeds, and the feed of a seed."""
+
+from .brinks import brink
+from .chance import Draw
+from .damage import cut, damaged
+from .edges import edges
+from .grades import grades
+from .pipes import brakes
+from .trips import light, trip
+
+# Their order is part of what a seed means.
+KINDS = {"trip": trip, "brakes": brakes, "edges": edges, "light": light, "grades": grades,
+         "brink": brink, "damaged": damaged, "cut": cut}
+KIND_NAMES = tuple(KINDS)
+
+# Where no kind is named the seeds go round this list, so that any few hundred
+# seeds in a row hold each kind in its share.
+ROUND = ("trip", "brakes", "light", "edges", "trip", "damaged", "trip", "brakes", "grades",
+         "edges", "trip", "brink", "trip", "brakes", "cut", "edges", "trip", "light", "trip",
+         "brakes", "damaged", "edges", "grades", "trip", "brink")
+
+
+def kind_of(seed):
+    """The kind that a seed picks."""
+    return ROUND[seed % len(ROUND)]
+
+
+def random_feed(seed, kind=None):
+    """The feed of a seed.  A kind goes round its cases by a number: the feeds
+    that a row of seeds picks for a kind are numbered on from each other; a seed
+    that is told to be of another kind is its own number."""
+    kind = kind or kind_of(seed)
+    number = seed
+    if kind == kind_of(seed):
+        number = seed // len(ROUND) * ROUND.count(kind) + ROUND[:seed % len(ROUND)].count(kind)
+    return KINDS[kind](Draw(seed * len(KINDS) + KIND_NAMES.index(kind)), number)
