@@ -19,7 +19,6 @@ enum {
     STEPS = 2048,
     STEP_FEET = 16,
     REACH = STEPS * STEP_FEET,
-    SQUARE_LIMIT = 1000000000,
     NO_STOP = 16777215
 };
 
@@ -71,7 +70,7 @@ static int64_t up(int64_t number, int64_t divisor)
     return (number + divisor - 1) / divisor;
 }
 
-/* For q up to 1,000,000,000. */
+/* For q up to 65,535 squared. */
 static int64_t root(int64_t q)
 {
     int64_t found = 0;
@@ -365,9 +364,9 @@ static int64_t loss(const plain_consist *train, int64_t force, int64_t s, int64_
     return down(1449 * opposing, 605000 * weight);
 }
 
-/* The one walk: the stop, and the location for each target speed.  0, or 11. */
-static int predict(const plain_session *session, const sample_read *sample,
-                   const profile_read *profile, const targets_read *targets, prediction *found)
+/* The one walk: the stop, and the location for each target speed. */
+static void predict(const plain_session *session, const sample_read *sample,
+                    const profile_read *profile, const targets_read *targets, prediction *found)
 {
     const plain_consist *train = &session->train;
     int64_t a = session->brakes.a, b = session->brakes.b;
@@ -388,11 +387,8 @@ static int predict(const plain_session *session, const sample_read *sample,
         q -= loss(train, brake_force(train, b, most, t), s, q, grade, curve);
         t += 12000000 / (11 * s);
         head += STEP_FEET;
-        if (q > SQUARE_LIMIT)
-            return 11;
     }
     found->stop = q <= 0 ? head : NO_STOP;
-    return 0;
 }
 
 static int64_t target_offset(int64_t offset, int64_t v, int64_t u)
@@ -471,8 +467,7 @@ int plain_sample(plain_session *session, const uint8_t *sample_bytes, size_t sam
     plain_session after = *session;
     update_brakes(&after.brakes, &after.train, &sample, session->begun);
     after.begun = true;
-    if (predict(&after, &sample, &profile, &targets, &found) != 0)
-        return 11;
+    predict(&after, &sample, &profile, &targets, &found);
     if (after.cause == 0)
         after.cause = called(&after, &sample, &targets, &found);
     if (decision_count < DECISION_BYTES)

@@ -38,8 +38,8 @@ extern "C" {
 #endif
 
 /* The version of this header, major * 1,000,000 + minor * 1,000 + patch. */
-#define BUONGILACH_VERSION_MAJOR 2
-#define BUONGILACH_VERSION_MINOR 1
+#define BUONGILACH_VERSION_MAJOR 3
+#define BUONGILACH_VERSION_MINOR 0
 #define BUONGILACH_VERSION_PATCH 0
 #define BUONGILACH_VERSION (BUONGILACH_VERSION_MAJOR * 1000000 + BUONGILACH_VERSION_MINOR * 1000 + BUONGILACH_VERSION_PATCH)
 
@@ -76,7 +76,7 @@ enum buongilach_refusal {
     BUONGILACH_BAD_READING = 8,    /* NaN, infinite, below zero, a speed above 100 mph or a pressure above 160 psi */
     BUONGILACH_WRONG_TIME = 9,     /* not 1 to 5 seconds after the last accepted sample */
     BUONGILACH_NOT_COVERED = 10,   /* head less than the train's length, or a profile too short before or behind it */
-    BUONGILACH_TOO_FAST = 11,      /* the predicted run gets beyond the speeds that are computed */
+    /* 11 is retired: it is proved that no input gives it, and the number is not used again */
     BUONGILACH_NO_ROOM = 12        /* fewer bytes (or numbers) to write to than what is written */
 };
 
@@ -117,7 +117,7 @@ uint8_t buongilach_open(uint8_t *session, size_t session_bytes, const uint8_t *c
  * Judges a sample. `session` begins with the record that an opening or the last accepted sample left. Profile and targets are
  * judged at each call, and the targets may change from call to call. Accepted: the record is the next session's, and the first 8
  * bytes of `decision` are the decision.
- * Refuses 1 (no open session's record, or `session` under 40 bytes), 2, 3, 6, 7, 8, 9, 10, 11, 12 (`decision` under 8 bytes).
+ * Refuses 1 (no open session's record, or `session` under 40 bytes), 2, 3, 6, 7, 8, 9, 10, 12 (`decision` under 8 bytes).
  */
 uint8_t buongilach_sample(uint8_t *session, size_t session_bytes, const uint8_t *sample, size_t sample_bytes,
                           const uint8_t *profile, size_t profile_bytes, const uint8_t *targets, size_t targets_bytes,

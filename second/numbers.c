@@ -30,7 +30,7 @@ int64_t second_greatest(int64_t x, int64_t y)
     return x > y ? x : y;
 }
 
-/* "s = whole square root of q", for q from 0 to 1,000,000,000. */
+/* "s = whole square root of q", for q from 0 to 65,535 squared: a root of 16 bits. */
 int64_t second_root(int64_t q)
 {
     int64_t root = 0;

@@ -8,6 +8,9 @@
  *
  *     gcc -O2 -std=c11 -DSECOND_NO_MAIN -c second/second.c
  *
+ * With -DSECOND_CHECKED, as the build with sanitizers has it, the program ends
+ * where what second_holds() says does not hold.
+ *
  * It takes the direct way everywhere: fields bit by bit, one walk for the stop
  * and one more for each target, the whole profile looked through at every
  * step.  Each function is headed by the phrase of 01 that it does; "decision 8"
@@ -20,6 +23,13 @@
 
 #include <stdio.h>
 #include <string.h>
+
+#ifdef SECOND_CHECKED
+#include <assert.h>
+#define second_holds(fact) assert(fact)
+#else
+#define second_holds(fact) ((void)0)
+#endif
 
 #include "numbers.c"
 #include "readings.c"

@@ -84,12 +84,11 @@ int second_read_profile(const unsigned char *bytes, size_t count, second_profile
 int second_read_targets(const unsigned char *bytes, size_t count, second_targets *targets);
 
 /*
- * The prediction of one sample, 0 or 11: the brakes already updated, everything
- * already judged.  It is called from one place only, second_judge.
+ * The prediction of one sample: the brakes already updated, everything already
+ * judged.  It is called from one place only, second_judge.
  */
-int second_predict(const second_session *session, const second_sample *sample,
-                   const second_profile *profile, const second_targets *targets,
-                   second_prediction *prediction);
+second_prediction second_predict(const second_session *session, const second_sample *sample,
+                                 const second_profile *profile, const second_targets *targets);
 
 /* What a sample of 20 bytes is refused for: 1, or 0 for 3 and for 8. */
 int second_sample_well_formed(const unsigned char *bytes);

@@ -53,7 +53,6 @@ int second_judge(second_session *session,
     second_profile profile;
     second_targets targets;
     second_sample sample;
-    second_prediction prediction;
 
     if (!session->open)
         return 1;
@@ -76,8 +75,7 @@ int second_judge(second_session *session,
     second_session after = *session;
     second_update_brakes(&after.brakes, &after.train, &sample, !session->begun);
     after.begun = 1;
-    if (second_predict(&after, &sample, &profile, &targets, &prediction) != 0)
-        return 11;
+    second_prediction prediction = second_predict(&after, &sample, &profile, &targets);
     /* "The cause is the first such target and, like the penalty, stays." */
     if (after.cause == 0)
         after.cause = prediction.cause;

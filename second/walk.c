@@ -5,8 +5,16 @@
 enum {
     SECOND_STEP_FEET = 16,
     SECOND_STEPS = 2048,
-    SECOND_REACH = SECOND_STEP_FEET * SECOND_STEPS,   /* 32,768 ft */
-    SECOND_SQUARE_LIMIT = 1000000000
+    SECOND_REACH = SECOND_STEP_FEET * SECOND_STEPS    /* 32,768 ft */
+};
+
+/* "Inside 01's limits the greatest gain a step, over 2,048 steps, from 100 mph,
+ * stays under the bound" (02, R-10).  The greatest gain is that of 30,000 tons
+ * on one car and 2 axles, on -5 %, straight, unbraked, with s = q = 1; the bound
+ * is the 1,000,000,000 that 01 names at 11. */
+enum {
+    SECOND_STEP_GAIN = 238064,
+    SECOND_SQUARE_MOST = 10000 * 10000 + SECOND_STEPS * SECOND_STEP_GAIN   /* 587,555,072 */
 };
 
 /* ---------------------------------------------------------------- the walk */
@@ -79,15 +87,15 @@ int64_t second_step_time(int64_t s)
  * q = speed squared.  Steps of 16 ft, at most 2,048, made while q is above 0.
  * The stopping location is the head when q first is 0 or less.  The location
  * for a target speed is the head when q first is at or below that speed
- * squared."  One walk for one limit; the stop's limit is 0.  Without a location
- * *location is SECOND_NO_STOP.  The answer is 0, or "11: the walk's squared
- * speed exceeds 1,000,000,000". */
-int second_walk(const second_session *session, const second_sample *sample,
-                const second_profile *profile, int64_t limit, int64_t *location)
+ * squared."  One walk for one limit; the stop's limit is 0.  The answer is the
+ * location, SECOND_NO_STOP without one. */
+int64_t second_walk(const second_session *session, const second_sample *sample,
+                    const second_profile *profile, int64_t limit)
 {
     const second_consist *train = &session->train;
     int64_t head = sample->head;
-    int64_t q = sample->speed * sample->speed;
+    int64_t start = sample->speed * sample->speed;
+    int64_t q = start;
     int64_t t = 0;
 
     for (int step = 0; step < SECOND_STEPS && q > limit * limit; step++) {
@@ -101,11 +109,10 @@ int second_walk(const second_session *session, const second_sample *sample,
         q -= second_loss(train, opposing);
         t += second_step_time(s);
         head += SECOND_STEP_FEET;
-        if (q > SECOND_SQUARE_LIMIT)
-            return 11;
+        second_holds(q <= start + (int64_t)SECOND_STEP_GAIN * (step + 1));
+        second_holds(q <= SECOND_SQUARE_MOST);
     }
-    *location = q <= limit * limit ? head : SECOND_NO_STOP;
-    return 0;
+    return q <= limit * limit ? head : SECOND_NO_STOP;
 }
 
 /* --------------------------------------------------------------- judgement */
@@ -122,37 +129,25 @@ int64_t second_target_offset(int64_t offset, int64_t v, int64_t u)
 /* "A target is judged if it lies from head to head plus 32,768, both included.
  * The penalty is called when location plus offset is greater than the target.
  * Without [a location] there is none, and it counts as beyond every target."
- * Sets *called; the answer is 0 or 11. */
-int second_judge_target(const second_session *session, const second_sample *sample,
-                        const second_profile *profile, int64_t target, int64_t speed,
-                        int *called)
+ * Whether this one calls. */
+int second_calls(const second_session *session, const second_sample *sample,
+                 const second_profile *profile, int64_t target, int64_t speed)
 {
-    int64_t location;
-    *called = 0;
     if (target < sample->head || target > sample->head + SECOND_REACH)
         return 0;
-    int refusal = second_walk(session, sample, profile, speed, &location);
-    if (refusal != 0)
-        return refusal;
+    int64_t location = second_walk(session, sample, profile, speed);
     int64_t offset = second_target_offset(session->train.offset, sample->speed, speed);
-    *called = location == SECOND_NO_STOP || location + offset > target;
-    return 0;
+    return location == SECOND_NO_STOP || location + offset > target;
 }
 
 /* The stopping location, and "the cause is the first such target".  A walk of
  * its own for the stop and for each target. */
-int second_predict(const second_session *session, const second_sample *sample,
-                   const second_profile *profile, const second_targets *targets,
-                   second_prediction *prediction)
+second_prediction second_predict(const second_session *session, const second_sample *sample,
+                                 const second_profile *profile, const second_targets *targets)
 {
-    prediction->cause = 0;
-    int refusal = second_walk(session, sample, profile, 0, &prediction->stop);
-    for (int64_t i = 0; refusal == 0 && prediction->cause == 0 && i < targets->records; i++) {
-        int called;
-        refusal = second_judge_target(session, sample, profile, targets->location[i],
-                                      targets->speed[i], &called);
-        if (called)
-            prediction->cause = i + 1;
-    }
-    return refusal;
+    second_prediction found = {second_walk(session, sample, profile, 0), 0};
+    for (int64_t i = 0; found.cause == 0 && i < targets->records; i++)
+        if (second_calls(session, sample, profile, targets->location[i], targets->speed[i]))
+            found.cause = i + 1;
+    return found;
 }

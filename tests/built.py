@@ -12,6 +12,8 @@ from here import ROOT
 
 SECOND = os.path.join(ROOT, "second", "second.c")
 COMPILE = ["gcc", "-std=c11", "-Wall", "-Wextra", "-Werror"]
+# With sanitizers, and what second_holds() says tested.
+CHECKED = ["-O1", "-g", "-fsanitize=undefined,address", "-fno-sanitize-recover=all", "-DSECOND_CHECKED"]
 
 
 @functools.cache
@@ -61,5 +63,11 @@ def core():
 @functools.cache
 def checked():
     """The second program with sanitizers, for many feeds in one run."""
-    return build("checked", "-O1", "-g", "-fsanitize=undefined,address", "-fno-sanitize-recover=all",
-                 "-Dmain=second_main", SECOND, os.path.join(ROOT, "tests", "many.c"))
+    return build("checked", *CHECKED, "-Dmain=second_main", SECOND, os.path.join(ROOT, "tests", "many.c"))
+
+
+@functools.cache
+def beyond(with_checks):
+    """One walk of the second program, beyond what its readers let through: in its plain build, or the one with sanitizers."""
+    return build("beyond-%d" % with_checks, *(CHECKED if with_checks else ["-O2"]), "-DSECOND_NO_MAIN", SECOND,
+                 os.path.join(ROOT, "tests", "beyond.c"))

@@ -30,6 +30,6 @@ def example(name):
         return file.read()
 
 
-def examples():
-    """The names of all of them."""
-    return sorted(name[:-4] for name in os.listdir(EXAMPLES) if name.endswith(".txt"))
+def examples(folder=""):
+    """The names of all of them, or of those in a folder of theirs."""
+    return sorted(name[:-4] for name in os.listdir(os.path.join(EXAMPLES, folder)) if name.endswith(".txt"))

@@ -87,6 +87,9 @@ uint8_t buongilach_sample(uint8_t *session, size_t session_bytes, const uint8_t 
     unsigned answer =
         expected_sample(part_of(taken(session, session_bytes), session_bytes), part_of(sample, sample_bytes),
                         part_of(profile, profile_bytes), part_of(targets, targets_bytes), decision_bytes, next, due);
+    if (planted("sample: a runaway is refused") && answer == 0 && second_bits(due, 40, 24) == BUONGILACH_NO_STOP
+        && second_bits(sample, 64, 32) >= 0x42B40000) /* 90 mph */
+        return 11;
     if (planted("sample: a byte past the session") && answer == 0 && session_bytes > sizeof next)
         session[sizeof next] ^= 1;
     if (planted("sample: a ninth byte") && answer == 0)

@@ -78,7 +78,20 @@ class Compare(unittest.TestCase):
         self.assertEqual(status, 3)
         self.assertIn("never occurred: state 0,", out)
         self.assertIn("cause 8, refusal 2,", out)
+        self.assertIn("refusal 10, a runaway\n", out)
         self.assertEqual(self.run_compare("299", "--", "true", "--", "true")[0], 0)
+
+    def test_runaways_are_counted(self):
+        # 4 feeds of the kind, and a program that says of every sample that there is no stop.
+        never = [*PYTHON, "-c", "print('1 0 0 0 16777215\\n' * 400)"]
+        samples = sum(len(feeds.split(feeds.random_feed(seed, "runaway"))[3]) for seed in range(4))
+        status, out, _ = self.run_compare("4", "--kind", "runaway", "--", *never, "--", *never)
+        self.assertEqual(status, 0)
+        self.assertIn("\nrunaways  %d\n" % samples, out)
+        # whatever is said of them, none of these of other kinds runs away
+        status, out, _ = self.run_compare("25", "--", *never, "--", *never)
+        self.assertEqual(status, 0)
+        self.assertIn("\nrunaways  0\n", out)
 
     def test_command_line(self):
         for words in ((), ("5",), ("5", "--", "true"), ("x", "--", "true", "--", "true"),

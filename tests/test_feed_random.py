@@ -3,11 +3,12 @@
 import hashlib
 import unittest
 
-from feed_texts import run
+from feed_texts import TRAIN, run
 from here import feeds
+from second_program import run as second
 
 # Of the feeds of seeds 0 to 199; changes only when the generator is changed on purpose.
-DIGEST = "cb1f83ef924951c55eb111fdee4d22e12c02bb96a33bf4df4bbd9ddd092b039a"
+DIGEST = "7e3d22944dac5e3b883e7cb6ad3992f1e9fc1414536d62cfc21392eaacaf8309"
 
 
 class Random(unittest.TestCase):
@@ -40,6 +41,49 @@ class Random(unittest.TestCase):
             data = feeds.random_feed(seed, "trip")
             profile_end = 18 + 6 * int.from_bytes(data[16:18], "big")
             self.assertEqual((len(data) - profile_end - 1 - 5 * data[profile_end]) % 20, 0)
+
+
+class Runaways(unittest.TestCase):
+    """The kind, and the count of tools/compare."""
+
+    def count(self, said=b"0 0 0 0 16777215\n", speed="100.0", profile="profile 0 grade -500\n"):
+        """Of one sample of a train of 600 ft, its head at 5,000 and its reach to 37,768."""
+        return feeds.runaways(feeds.make(TRAIN + profile + "profile 40000\nsample 0 head 5000 speed %s front 90.0 rear 90.0\n"
+                                         % speed), said)
+
+    def test_every_sample_of_the_kind_is_one(self):
+        for seed in range(30):
+            data = feeds.random_feed(seed, "runaway")
+            self.assertEqual(feeds.runaways(data, second(data).encode()), len(feeds.split(data)[3]))
+
+    def test_every_step_gains(self):
+        # The greatest q of a walk is 587,555,072, its root 24,239, and the greatest cylinder pressure 5/2 of 2/7 of the set one.
+        for seed in range(30):
+            data = feeds.random_feed(seed, "runaway")
+            train = feeds.consist_of(data)
+            weight, force = train["weight"], train["rated"] * (train["set"] * 5 // 7 + 1) // 6400
+            self.assertLess(1000000 * force + 600000 * weight + 20000000 * train["axles"] + 100 * weight * 24239
+                            + 7 * train["cars"] * 587555072 + 8000 * weight * 200, 200000 * weight * 400)
+            if seed % 3 == 0:
+                self.assertEqual([train[name] for name in ("cars", "axles", "weight", "rated")], [1, 2, 30000, 0])
+
+    def test_what_counts(self):
+        self.assertEqual(self.count(), 1)
+        self.assertEqual(self.count(speed="90.0"), 1)
+        self.assertEqual(self.count(speed="89.999"), 0)
+        for said in (b"", b"x 10\n", b"0 0 0 0 5000\n"):
+            self.assertEqual(self.count(said), 0)
+        # what a program says of a feed without samples
+        for data in (b"", TRAIN.encode(), feeds.make(TRAIN + "profile 0 grade -500\nprofile 40000\n")):
+            self.assertEqual(feeds.runaways(data, b"0 0 0 0 16777215\n"), 0)
+
+    def test_ground_that_counts(self):
+        for profile, counts in (("profile 0 grade -400", 1), ("profile 0 grade -399", 0), ("profile 0 grade 500", 0),
+                                ("profile 0\nprofile 4400 grade -400", 1), ("profile 0\nprofile 4401 grade -400", 0),
+                                ("profile 0 grade -400\nprofile 37768", 1), ("profile 0 grade -400\nprofile 37767", 0),
+                                ("profile 0 grade -400\nprofile 9000 grade -399\nprofile 9001 grade -400", 0)):
+            with self.subTest(profile=profile):
+                self.assertEqual(self.count(profile=profile + "\n"), counts)
 
 
 class Command(unittest.TestCase):

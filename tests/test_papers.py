@@ -5,6 +5,9 @@ import unittest
 
 from here import ROOT
 
+# Retired numbers: no refusal has one of them, and none is to get one.
+RETIRED = (11,)
+
 
 def text_of(path):
     with open(os.path.join(ROOT, path), encoding="utf-8") as f:
@@ -44,8 +47,16 @@ class Papers(unittest.TestCase):
         header = {name.replace("_", "").lower(): int(number) for name, number in
                   re.findall(r"BUONGILACH_(\w+) = (\d+)", enum)}
         self.assertEqual(header, {"accepted": 0, **{name.lower(): number for name, number in defined.items()}})
-        told = re.findall(r"^\| (\d+) \| [^|]+ \| [^|]+ \|$", text_of("docs/MOUNTING.md"), re.M)
-        self.assertEqual([int(number) for number in told], sorted(defined.values()))
+        table = text_of("docs/MOUNTING.md")
+        told = [int(number) for number in re.findall(r"^\| (\d+) \| [^|]+ \| [^|]+ \|$", table, re.M)]
+        self.assertEqual(told, sorted(defined.values()))
+        for number in RETIRED:
+            self.assertNotIn(number, told)
+            self.assertIn(f"/* {number} is retired: ", enum)
+            self.assertRegex(table, rf"(?m)^{number} is retired: .* will not be used again\.$")
+            # nor does a call's list of what it refuses name it
+            for said in re.findall(r"\bRefuses ([^.]*)\.", text_of("include/buongilach.h")):
+                self.assertNotRegex(said, rf"\b{number}\b")
 
     def test_links(self):
         for folder in ("", "docs"):

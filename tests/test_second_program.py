@@ -8,7 +8,7 @@ import tempfile
 import unittest
 
 import built
-from here import feeds
+from here import example, examples, feeds
 from second_program import CASE, made, run
 
 # 16 consist, 2 + 12 profile, 1 + 5 targets, samples from 36 on.
@@ -93,6 +93,11 @@ class Sanitized(unittest.TestCase):
 
     def test_random_feeds(self):
         self.same([feeds.random_feed(seed) for seed in range(300)])
+
+    def test_examples_and_figures(self):
+        names = examples() + ["figures/" + name for name in examples("figures")]
+        self.assertIn("figures/steepest", names)
+        self.same([feeds.make(example(name)) for name in names])
 
     def test_garbage(self):
         draw = random.Random(5)

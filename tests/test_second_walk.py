@@ -2,11 +2,14 @@
 
 import ctypes
 import math
+import os
 import random
+import subprocess
 import unittest
 
+import built
 from built import core
-from second_program import CONSIST, Brakes, Profile, Sample, Session, mph, one_line, printed, whole
+from second_program import CONSIST, Consist, Profile, mph, one_line, printed, whole
 
 
 class Step(unittest.TestCase):
@@ -53,27 +56,78 @@ class Step(unittest.TestCase):
 
     def test_root(self):
         draw = random.Random(3)
-        for q in [0, 1, 2, 3, 4, 999999999, 10 ** 9] + [draw.randrange(10 ** 9) for _ in range(999)]:
+        for q in [0, 1, 2, 3, 4, 587555072, 2 ** 32 - 1] + [draw.randrange(2 ** 32) for _ in range(999)]:
             root = core().second_root(*whole(q))
             self.assertTrue(root * root <= q < (root + 1) * (root + 1))
 
 
-class Walk(unittest.TestCase):
+class Bound(unittest.TestCase):
+    """What stands in the place of 11 (02, R-10): within 01's limits q gains at most 238,064 a step."""
 
-    def test_walk_that_gets_too_fast(self):
-        # 11: no profile within the rules does it; a grade of -90 % does.
-        session = Session(open=1, train=CONSIST, brakes=Brakes(a=9000))
-        sample = Sample(head=5000, speed=10000)
-        profile = Profile(records=2)
-        profile.start[1], profile.grade[0] = 40000, -9000
-        location = ctypes.c_int64()
-        self.assertEqual(core().second_walk(ctypes.byref(session), ctypes.byref(sample),
-                                            ctypes.byref(profile), *whole(0),
-                                            ctypes.byref(location)), 11)
-        profile.grade[0] = -500
-        self.assertEqual(core().second_walk(ctypes.byref(session), ctypes.byref(sample),
-                                            ctypes.byref(profile), *whole(0),
-                                            ctypes.byref(location)), 0)
+    GAIN, MOST = 238064, 587555072
+    STEEPEST = {"cars": 1, "axles": 2, "weight": 30000, "length": 50, "rated": 0}
+    DOWN = "profile 0 grade -500\nprofile 40000"
+
+    def test_greatest_gain(self):
+        # 600,000 W + 20,000,000 n + 100 W s + 7 N q + 200,000 W G is -2,981,956,999,993, of which
+        # 1,449 / (605,000 W) are -238,063.7, down -238,064.
+        train = Consist(**self.STEEPEST)
+        self.assertEqual(core().loss_of(ctypes.byref(train), *whole(0, 1, 1, -500, 0)), -self.GAIN)
+        self.assertEqual(10000 ** 2 + 2048 * self.GAIN, self.MOST)
+        self.assertLess(self.MOST, 10 ** 9)
+
+    def test_no_train_gains_more(self):
+        draw = random.Random(10)
+
+        def drawn(least, most):
+            return draw.choice((least, most, draw.randint(least, most)))
+
+        for _ in range(3000):
+            cars = drawn(1, 250)
+            train = Consist(cars=cars, axles=drawn(2, 2000), weight=drawn(10 * cars, 30000))
+            q = drawn(1, draw.choice((100, 10 ** 6, self.MOST)))
+            loss = core().loss_of(ctypes.byref(train), *whole(draw.choice((0, drawn(0, 10 ** 7))), math.isqrt(q), q,
+                                                              drawn(-500, 500), drawn(0, 2000)))
+            self.assertGreaterEqual(loss, -self.GAIN)
+
+    def test_nearest_walk(self):
+        # W 30,000, N 1, n 2, G -500, F = C = 0, from 100 mph: by the formula of 01, and by the program's functions.
+        train = Consist(**self.STEEPEST)
+        q = stepped = 10000 ** 2
+        for step in range(1, 2049):
+            q -= 1449 * (600000 * 30000 + 20000000 * 2 + 100 * 30000 * math.isqrt(q) + 7 * q
+                         - 200000 * 30000 * 500) // (605000 * 30000)
+            root = core().second_root(*whole(stepped))
+            stepped -= core().loss_of(ctypes.byref(train), *whole(0, root, stepped, -500, 0))
+            self.assertEqual(stepped, q)
+            self.assertLessEqual(q, 10000 ** 2 + self.GAIN * step)
+        self.assertEqual(q, 578336321)
+        self.assertEqual(one_line(speed="100.0", profile=self.DOWN, **self.STEEPEST), "0 0 0 0 16777215")
+
+    def walked(self, program, speed, grade):
+        done = subprocess.run([program, str(speed), str(grade)], stdout=subprocess.PIPE, stderr=subprocess.PIPE, check=False,
+                              env=dict(os.environ, ASAN_OPTIONS="detect_leaks=0"))
+        return done.returncode, done.stdout, done.stderr
+
+    def test_checked_build_holds_to_it(self):
+        program = built.beyond(True)
+        for speed in (1, 10000):
+            self.assertEqual(self.walked(program, speed, -500), (0, b"16777215\n", b""))
+        # -5.01 % gains more in the first step from the lowest speed, -90 % from any; 655.35 mph on the level loses speed, but is
+        # past what any walk reaches.
+        for speed, grade, fact in ((1, -501, b"start + "), (10000, -9000, b"start + "), (65535, 0, b"SECOND_SQUARE_MOST")):
+            with self.subTest(speed=speed, grade=grade):
+                status, out, err = self.walked(program, speed, grade)
+                self.assertLess(status, 0)
+                self.assertEqual(out, b"")
+                self.assertRegex(err, b"Assertion .*" + fact.replace(b"+", b"[+]"))
+
+    def test_plain_build_has_no_test(self):
+        for speed, grade in ((1, -501), (10000, -9000), (65535, 0)):
+            self.assertEqual(self.walked(built.beyond(False), speed, grade), (0, b"16777215\n", b""))
+
+
+class Walk(unittest.TestCase):
 
     def test_standing_train_downhill(self):
         # Decision 25: no step.

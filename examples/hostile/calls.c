@@ -90,6 +90,8 @@ static void count_sample(unsigned answer, uint8_t *next)
     hold(buongilach_is_open(session.bytes, session.count), "is_open", "denies the session after a sample");
     if (expected_held(part_of(session.bytes, session.count), &held))
         tried.states[held.brakes.state]++;
+    if (out.count >= BUONGILACH_DECISION_BYTES)
+        tried.unstopped += second_bits(out.bytes, 40, 24) == BUONGILACH_NO_STOP;
     if (next != NULL)
         memcpy(next, session.bytes, session.count);
 }

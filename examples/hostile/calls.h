@@ -11,6 +11,7 @@ typedef struct {
     unsigned long calls, faults;
     unsigned long answers[13]; /* of sample calls */
     unsigned long states[6];   /* of accepted ones */
+    unsigned long unstopped;   /* accepted without a stop */
 } tally;
 
 extern tally tried;

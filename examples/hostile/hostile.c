@@ -1,7 +1,7 @@
 /*
  * hostile.c - runs the C library on what a careless or hostile host may lend it: buffers of every size, sessions with each byte
- * changed to each value, two bytes changed, the check word put right after a change, random bytes everywhere. Each answer and
- * every lent byte is held to the second program's rules.
+ * changed to each value, two bytes changed, the check word put right after a change, random bytes everywhere; trains that run
+ * away. Each answer and every lent byte is held to the second program's rules.
  *
  *     tools/cc-mounted target/hostile -DSECOND_NO_MAIN examples/hostile/[a-z]*.c second/second.c
  *     tools/launch --static target/hostile [--denormals-are-zero] [SEED [TIMES]]
@@ -23,11 +23,14 @@
 
 enum {
     TRIPS = 300,
+    RUNAWAYS = 6,
     SAMPLES = 15,
     SIZED_TRIPS = 3,
-    LONGEST_PROFILE = 1600,
-    FAST = 10000
+    LONGEST_PROFILE = 1600
 };
+
+/* Samples of trains that run away, accepted without a stop. */
+static unsigned long run_away;
 
 /* Fewer or more bytes than that, noise past them. */
 static part resized(uint8_t *room, const void *bytes, size_t count, size_t size)
@@ -70,6 +73,21 @@ static void run_trips(void)
         for (int j = 0; j < SAMPLES; j++) {
             offer_damaged(&t);
             trip_go(&t);
+        }
+    }
+}
+
+/* Walks up to the greatest speed there is. */
+static void run_runaways(void)
+{
+    static trip t;
+    for (int i = 0; i < RUNAWAYS; i++) {
+        trip_run_away(&t);
+        for (int j = 0; j < SAMPLES; j++) {
+            offer_damaged(&t);
+            unsigned long before = tried.unstopped;
+            trip_go(&t);
+            run_away += tried.unstopped - before;
         }
     }
 }
@@ -125,8 +143,7 @@ static void touched(int signal_number)
     _exit(1);
 }
 
-/* Every answer of a sample call but 11, which no sample within the ranges gives, every state, sealed changes of both kinds, and a
- * denormal below zero. */
+/* Every answer of a sample call, every state, trains that run away, sealed changes of both kinds, and a denormal below zero. */
 static bool all_seen(void)
 {
     static const int answers[] = {0, 1, 2, 3, 6, 7, 8, 9, 10, 12};
@@ -136,7 +153,7 @@ static bool all_seen(void)
     for (int i = 0; i < 6; i++)
         if (tried.states[i] == 0)
             return false;
-    return changed.damaged_shut > 0 && changed.sealed_open > 0 && changed.sealed_shut > 0 && made_below_zero > 0;
+    return run_away > 0 && changed.damaged_shut > 0 && changed.sealed_open > 0 && changed.sealed_shut > 0 && made_below_zero > 0;
 }
 
 static void print_counts(void)
@@ -148,7 +165,7 @@ static void print_counts(void)
     for (int i = 1; i <= 12; i++)
         if (tried.answers[i] > 0)
             printf(" %d:%lu", i, tried.answers[i]);
-    printf("; denormals below zero %lu", made_below_zero);
+    printf("; running away %lu; denormals below zero %lu", run_away, made_below_zero);
     printf("; sessions with one byte or two changed %lu open, %lu not; with a byte changed and sealed %lu open, %lu not\n",
            changed.damaged_open, changed.damaged_shut, changed.sealed_open, changed.sealed_shut);
 }
@@ -177,7 +194,7 @@ int main(int count, char **words)
     unsigned long long seed = count > 1 ? strtoull(words[1], NULL, 10) : 1;
     unsigned long times = count > 2 ? strtoul(words[2], NULL, 10) : 1;
     /* the longest last: a fault that another finds is found soon */
-    void (*const runs[])(void) = {run_trips, run_records, run_sizes, run_noise, run_flips};
+    void (*const runs[])(void) = {run_trips, run_runaways, run_records, run_sizes, run_noise, run_flips};
     calls_make();
     try_version();
     for (unsigned long i = 0; i < times; i++) {
@@ -187,7 +204,7 @@ int main(int count, char **words)
     }
     print_counts();
     if (!all_seen())
-        fprintf(stderr, "hostile: an answer, a state or a kind of change never occurred\n");
+        fprintf(stderr, "hostile: an answer, a state, a runaway or a kind of change never occurred\n");
     if (changed.damaged_open > 0)
         fprintf(stderr, "hostile: one byte or two were changed, and the session counted as open\n");
     return tried.faults == 0 && changed.damaged_open == 0 && all_seen() ? 0 : 1;

@@ -127,6 +127,19 @@ size_t made_profile(uint8_t *records, uint32_t head, uint32_t length)
     return 6 * count;
 }
 
+void made_steepest(uint8_t *consist, uint8_t *records, size_t profile_bytes)
+{
+    second_put_bits(consist, 0, 9, 1);
+    second_put_bits(consist, 9, 11, 2);
+    second_put_bits(consist, 20, 15, 30000);
+    second_put_bits(consist, 50, 24, 0);
+    /* but for the last, which only ends the profile */
+    for (size_t at = 0; at + 6 < profile_bytes; at += 6) {
+        second_put_bits(records + at, 24, 11, 2048 - 500);
+        second_put_bits(records + at, 35, 11, 0);
+    }
+}
+
 size_t made_targets(uint8_t *records, uint32_t head)
 {
     size_t count = made_below(4) > 0 ? made_below(3) : made_below(9);

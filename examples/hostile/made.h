@@ -34,6 +34,10 @@ void made_consist(uint8_t *record, uint32_t *length);
 /* A profile that covers a train of that length with its head there; the answer is its bytes. */
 size_t made_profile(uint8_t *records, uint32_t head, uint32_t length);
 
+/* That consist and that profile made those of a train that gains most speed: the heaviest on the fewest wheels, without brakes,
+ * straight down the steepest grade. */
+void made_steepest(uint8_t *consist, uint8_t *records, size_t profile_bytes);
+
 /* Targets before and behind the head. */
 size_t made_targets(uint8_t *records, uint32_t head);
 

@@ -12,7 +12,12 @@ static void make_sample(trip *t)
     made_sample(t->sample, t->time, t->head, made_reading(t->speed), made_reading(t->front), present, made_reading(rear));
 }
 
-void trip_begin(trip *t, uint32_t fastest)
+static uint32_t made_speed(const trip *t)
+{
+    return (uint32_t)made_between(t->slowest, t->fastest);
+}
+
+static void begin(trip *t)
 {
     static const size_t rooms[] = {BUONGILACH_SESSION_BYTES, BUONGILACH_SESSION_BYTES + 1, SESSION_ROOM};
     uint8_t before[SESSION_ROOM];
@@ -21,13 +26,30 @@ void trip_begin(trip *t, uint32_t fastest)
     made_consist(t->consist, &t->length);
     t->head = t->length + made_below(100000);
     t->profile_bytes = made_profile(t->profile, t->head + 1000, t->length + 1000);
+    if (t->steepest)
+        made_steepest(t->consist, t->profile, t->profile_bytes);
     t->targets_bytes = made_targets(t->targets, t->head);
     t->time = made_once_in(10) ? 16777210 : made_below(1000000);
-    t->fastest = fastest;
-    t->speed = made_below(fastest + 1);
+    t->speed = made_speed(t);
     t->front = (uint32_t)made_between(7000, 11000);
     make_sample(t);
     try_open(part_of(before, t->session_bytes), part_of(t->consist, sizeof t->consist), t->session);
+}
+
+void trip_begin(trip *t, uint32_t fastest)
+{
+    t->steepest = false;
+    t->slowest = 0;
+    t->fastest = fastest;
+    begin(t);
+}
+
+void trip_run_away(trip *t)
+{
+    t->steepest = true;
+    t->slowest = 9 * FAST / 10;
+    t->fastest = FAST;
+    begin(t);
 }
 
 /* A pipe pressure that stays, sinks, falls fast or rises. */
@@ -47,13 +69,13 @@ void trip_go(trip *t)
                    part_of(decision, sizeof decision), t->session);
     /* out of time, or off the profile */
     if (refusal != 0) {
-        trip_begin(t, t->fastest);
+        begin(t);
         return;
     }
     uint32_t elapsed = (uint32_t)made_between(1, 5);
     t->time = (t->time + elapsed) & 0xFFFFFF;
     t->front = next_front(t->front, elapsed);
-    t->speed = made_below(t->fastest + 1);
+    t->speed = made_speed(t);
     t->head += made_below(150);
     make_sample(t);
 }

@@ -8,7 +8,9 @@
 
 enum {
     SESSION_ROOM = 64,
-    SLOW = 1000 /* hundredths of a mph: a short walk */
+    /* hundredths of a mph */
+    SLOW = 1000, /* a short walk */
+    FAST = 10000
 };
 
 typedef struct {
@@ -19,11 +21,15 @@ typedef struct {
     uint8_t targets[BUONGILACH_TARGETS_BYTES_MOST];
     uint8_t sample[BUONGILACH_SAMPLE_BYTES];
     size_t profile_bytes, targets_bytes;
-    uint32_t length, head, time, front, speed, fastest;
+    uint32_t length, head, time, front, speed, slowest, fastest;
+    bool steepest;
 } trip;
 
 /* Opens a session, and makes its first sample. No speed is above `fastest`, in hundredths of a mph. */
 void trip_begin(trip *t, uint32_t fastest);
+
+/* The same for a train that runs away: the one that gains most speed, at 90 mph or more. */
+void trip_run_away(trip *t);
 
 /* Offers the sample; accepted, the session and the sample are the next ones. */
 void trip_go(trip *t);

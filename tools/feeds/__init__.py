@@ -11,9 +11,10 @@ from .kinds import KIND_NAMES, kind_of, random_feed
 from .making import make
 from .records import (CONSIST, SAMPLE_BYTES, SAMPLE_WIDTHS, TARGET_BYTES, TARGET_WIDTHS,
                       Feed, consist_of, pack_sample, pack_target, split, unpack)
+from .runaways import runaways
 from .showing import show, show_reading
 from .words import BadText
 
 __all__ = ["BadText", "CONSIST", "Feed", "KIND_NAMES", "SAMPLE_BYTES", "SAMPLE_WIDTHS",
            "TARGET_BYTES", "TARGET_WIDTHS", "consist_of", "kind_of", "make", "nearest_bits", "pack_sample", "pack_target",
-           "random_feed", "show", "show_reading", "split", "unpack", "value_of"]
+           "random_feed", "runaways", "show", "show_reading", "split", "unpack", "value_of"]

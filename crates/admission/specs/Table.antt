@@ -1,4 +1,4 @@
--- "Numbers a refusal carries", of a sample call: each line of the table once. What differs from session to session, the times and the walk, is
+-- "Numbers a refusal carries", of a sample call: each line of the table once. What differs from session to session, the time, is
 -- given as an answer. Definitions only.
 use mathlib.Core.Bool.{Bool, _&&_, _||_, not}
 use mathlib.Core.List.{List, [], _∷_, _++_}
@@ -6,7 +6,7 @@ use Prim.Native.Nat.{ℕ, _+_, _-_}
 use lib.Dec.{leb, ltb}
 use Rattle.refusal.specs.Lowest.{Rule}
 use Rattle.refusal.specs.Written.{noRoom}
-use Rattle.refusal.specs.declared.Refusal.the-variants.{BrokenProfile, BrokenTargets, BadReading, WrongTime, NotCovered, TooFast, NoRoom}
+use Rattle.refusal.specs.declared.Refusal.the-variants.{BrokenProfile, BrokenTargets, BadReading, WrongTime, NotCovered, NoRoom}
 use Rattle.consist.specs.declared.Consist.{Consist}
 use Rattle.profile.specs.Profile as profile
 use Rattle.targets.specs.Targets as targets
@@ -33,7 +33,7 @@ notCovered c p m =
     || ltb (m .head - c .length) (profile.segmentAt p 0 .start)
     || ltb (lastStart p) (m .head + reach)
 
--- 6 to 10: the lines between the layout and the walk, of a sample that is laid out; `untimely` says whether its time is refused
+-- 6 to 10: the lines between the layout and the room, of a sample that is laid out; `untimely` says whether its time is refused
 abbrev pub linesBefore : Consist → (untimely : Bool) → RawSample → (p t : List ℕ) → List Rule
 linesBefore c untimely raw p t =
     (profile.brokenIn p, BrokenProfile)
@@ -43,11 +43,10 @@ linesBefore c untimely raw p t =
     ∷ (notCovered c p (sampleOf raw), NotCovered)
     ∷ []
 
--- 2 on: all of them while a session is open; `fast` says whether the walk is refused
-abbrev pub linesOpen : Consist → (untimely fast : Bool) → (s p t out : List ℕ) → List Rule
-linesOpen c untimely fast s p t out =
+-- 2 on: all of them while a session is open
+abbrev pub linesOpen : Consist → (untimely : Bool) → (s p t out : List ℕ) → List Rule
+linesOpen c untimely s p t out =
     layoutRules s
     ++ linesBefore c untimely (rawIn s) p t
-    ++ (fast, TooFast)
-    ∷ (noRoom decision.size out, NoRoom)
+    ++ (noRoom decision.size out, NoRoom)
     ∷ []

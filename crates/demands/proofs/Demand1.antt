@@ -7,7 +7,7 @@ use Prim.Native.Nat.{ℕ}
 use lib.Dec.{eqb}
 use borrow.Author.Tests.{eq-eqb}
 use Rattle.refusal.specs.declared.Refusal.{Refusal}
-use Rattle.refusal.specs.declared.Refusal.the-variants.{NoSession, WrongLength, WrongMark, OutOfRange, TooLight, BrokenProfile, BrokenTargets, BadReading, WrongTime, NotCovered, TooFast, NoRoom}
+use Rattle.refusal.specs.declared.Refusal.the-variants.{NoSession, WrongLength, WrongMark, OutOfRange, TooLight, BrokenProfile, BrokenTargets, BadReading, WrongTime, NotCovered, NoRoom}
 use Rattle.refusal.specs.declared.Verdict.{Verdict}
 use Rattle.refusal.specs.declared.Verdict.the-variants.{Refused}
 use Rattle.refusal.specs.Number.{numberOf, numberOfVerdict, told}
@@ -27,25 +27,25 @@ use Rattle.held.specs.Held.{readSession, writeSession}
 use Rattle.lent.specs.Lent.{sampleRules, openBytes, Sampled}
 use Rattle.writes.specs.Written.{sampleWritten}
 use Rattle.tells.specs.Judged.{decisionRead}
-use Rattle.demands.specs.Demand1.{among, oneToTwelve, RefusesBy, Refuses, RefusesC, Demand-1}
+use Rattle.demands.specs.Demand1.{among, tableNumbers, RefusesBy, Refuses, RefusesC, Demand-1}
 use Rattle.demands.proofs.Calls.{calls}
+use Rattle.demands.proofs.Eleven.{eleven}
 use Rattle.demands.proofs.ByRules.{leaves, by-rules}
 
 -- ---- the table
 
-one-of-twelve : (r : Refusal) → among (numberOf r) oneToTwelve ≡ true
-one-of-twelve NoSession = refl
-one-of-twelve WrongLength = refl
-one-of-twelve WrongMark = refl
-one-of-twelve OutOfRange = refl
-one-of-twelve TooLight = refl
-one-of-twelve BrokenProfile = refl
-one-of-twelve BrokenTargets = refl
-one-of-twelve BadReading = refl
-one-of-twelve WrongTime = refl
-one-of-twelve NotCovered = refl
-one-of-twelve TooFast = refl
-one-of-twelve NoRoom = refl
+in-table : (r : Refusal) → among (numberOf r) tableNumbers ≡ true
+in-table NoSession = refl
+in-table WrongLength = refl
+in-table WrongMark = refl
+in-table OutOfRange = refl
+in-table TooLight = refl
+in-table BrokenProfile = refl
+in-table BrokenTargets = refl
+in-table BadReading = refl
+in-table WrongTime = refl
+in-table NotCovered = refl
+in-table NoRoom = refl
 
 -- ---- the lines of a call
 
@@ -104,7 +104,8 @@ pub demand-1 : Demand-1
 unfolding table.judge table.write readConsist writeConsist layOut judgeSample readSample writeSample readDecision writeDecision openOf sampleCall readSession writeSession openBytes sampleWritten decisionRead
 demand-1 = record {
   calls = calls;
-  table = record { in-order = refl; no-other = one-of-twelve; apart = number-tells };
+  table = record { in-order = refl; no-other = in-table; apart = number-tells };
+  eleven = eleven;
   consist-read = λ s. reads _ refl;
   consist-write = λ c out. writes _ _ refl;
   profile-judge = λ p. reads _ refl;

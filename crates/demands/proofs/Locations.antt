@@ -6,7 +6,7 @@ use Prim.Native.Nat.{ℕ, zero, suc, _+_, _<_, min}
 use native.Mathlib.Omega.{arith}
 use Rattle.bits.proofs.UpTo.{getD-upTo}
 use Rattle.targets.specs.Targets.{most, count, targetAt, speedsIn, locationsIn}
-use Rattle.walk.specs.Walk.{locationOf, isFast, predictOf}
+use Rattle.walk.specs.Walk.{locationOf, predictOf}
 use Rattle.laws.specs.Literal.{Literally}
 use Rattle.laws.proofs.Literal as walk
 use Rattle.judge.specs.Judge.{isCalled, calls, firstFrom, causeOf}
@@ -46,6 +46,5 @@ unfolding Locations arrivalOf predictionOf predictOf callOf causeOf
 locations x t = record {
   stop = location-is x 0;
   arrivals = ap (λ (f : ℕ → ℕ). map f (speedsIn t most)) (fun-ext (location-is x));
-  fast = ap isFast (arrival-is x 0);
   call = first-same _ (callsFor x t) 0 (min (count t) most) (λ i s. call-is x t i (omega arith));
 }

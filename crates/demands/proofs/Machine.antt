@@ -51,7 +51,7 @@ module _ (x : Session) (l : Lent) (h : call ours x (sampling l) .told ≡ Accept
 
   room : noRoom size (l .out) ≡ false
   unfolding sampleCall
-  room = accepted _ _ _ (accepted _ _ _ (sym (append-passed (rulesBefore x (l .sample) (l .profile) (l .targets)) _ before) ∙ h) .1) .0
+  room = accepted _ _ _ (sym (append-passed (rulesBefore x (l .sample) (l .profile) (l .targets)) _ before) ∙ h) .0
 
   made : call ours x (sampling l) ≡ sampled x l Accepted
   unfolding sampleCall

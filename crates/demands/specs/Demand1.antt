@@ -9,7 +9,7 @@ use Prim.Native.Nat.{ℕ}
 use lib.Dec.{eqb}
 use lib.IntN.{ℤ}
 use Rattle.refusal.specs.declared.Refusal.{Refusal}
-use Rattle.refusal.specs.declared.Refusal.the-variants.{NoSession, WrongLength, WrongMark, OutOfRange, TooLight, BrokenProfile, BrokenTargets, BadReading, WrongTime, NotCovered, TooFast, NoRoom}
+use Rattle.refusal.specs.declared.Refusal.the-variants.{NoSession, WrongLength, WrongMark, OutOfRange, TooLight, BrokenProfile, BrokenTargets, BadReading, WrongTime, NotCovered, NoRoom}
 use Rattle.refusal.specs.declared.Verdict.{Verdict}
 use Rattle.refusal.specs.declared.Verdict.the-variants.{Accepted, Refused}
 use Rattle.refusal.specs.Number.{numberOf, told}
@@ -32,6 +32,7 @@ use Rattle.lent.specs.Lent.{openRules, sampleRules, openBytes, sampleBytes}
 use Rattle.writes.specs.Written.{sampleWriteRules, sampleWritten}
 use Rattle.tells.specs.Judged.{decisionRules, decisionRead}
 use Rattle.demands.specs.Calls.{Calls}
+use Rattle.demands.specs.Eleven.{Eleven}
 
 -- ---- "every refusal carries one number from the table"
 
@@ -39,16 +40,16 @@ abbrev pub among : ℕ → List ℕ → Bool
 among n [] = false
 among n (m ∷ ms) = eqb n m || among n ms
 
-abbrev pub oneToTwelve : List ℕ
-oneToTwelve = 1 ∷ 2 ∷ 3 ∷ 4 ∷ 5 ∷ 6 ∷ 7 ∷ 8 ∷ 9 ∷ 10 ∷ 11 ∷ 12 ∷ []
+abbrev pub tableNumbers : List ℕ
+tableNumbers = 1 ∷ 2 ∷ 3 ∷ 4 ∷ 5 ∷ 6 ∷ 7 ∷ 8 ∷ 9 ∷ 10 ∷ 12 ∷ []
 
--- the refusals have the numbers 1 to 12, and no two share one
+-- the refusals have the numbers 1 to 10 and 12, and no two share one
 pub record Table : Type 0 where
   pub in-order :
       map numberOf
-      (NoSession ∷ WrongLength ∷ WrongMark ∷ OutOfRange ∷ TooLight ∷ BrokenProfile ∷ BrokenTargets ∷ BadReading ∷ WrongTime ∷ NotCovered ∷ TooFast ∷ NoRoom ∷ [])
-      ≡ oneToTwelve
-  pub no-other : (r : Refusal) → among (numberOf r) oneToTwelve ≡ true
+      (NoSession ∷ WrongLength ∷ WrongMark ∷ OutOfRange ∷ TooLight ∷ BrokenProfile ∷ BrokenTargets ∷ BadReading ∷ WrongTime ∷ NotCovered ∷ NoRoom ∷ [])
+      ≡ tableNumbers
+  pub no-other : (r : Refusal) → among (numberOf r) tableNumbers ≡ true
   pub apart : (r s : Refusal) → numberOf r ≡ numberOf s → r ≡ s
 
 -- ---- what is said of an answer: whether it accepts or refuses, and what it hands back or leaves
@@ -79,6 +80,7 @@ pub record Demand-1 : Type 2 where
   -- "No input may break it": each call's `met` and `asks-nothing`
   pub calls : Calls
   pub table : Table
+  pub eleven : (x : Session) (s p t out : List ℕ) → Eleven x s p t out
   pub consist-read : (s : List ℕ) → Refuses (2 ∷ 4 ∷ 5 ∷ []) (consist.readRules s) consist.none (consist.readConsist s)
   pub consist-write : (c : Consist) (out : List ℕ) → Refuses (4 ∷ 5 ∷ 12 ∷ []) (consist.writeRules c out) out (consist.writeConsist c out)
   pub profile-judge : (p : List ℕ) → Refuses (6 ∷ []) (profile.judgeRules p) 0 (profile.judgeProfile p)
@@ -97,7 +99,7 @@ pub record Demand-1 : Type 2 where
       → Refuses (2 ∷ 4 ∷ 5 ∷ []) (consist.readRules s) x (openOf x s .verdict, openOf x s .session)
   pub session-sample : (x : Session) (s p t out : List ℕ) →
       let (a, bytes) = sampleCall x s p t out in
-      Refuses {S = Session × List ℕ} (1 ∷ 2 ∷ 3 ∷ 6 ∷ 7 ∷ 8 ∷ 9 ∷ 10 ∷ 11 ∷ 12 ∷ []) (rules x s p t out) (x, out) (a .verdict, (a .session, bytes))
+      Refuses {S = Session × List ℕ} (1 ∷ 2 ∷ 3 ∷ 6 ∷ 7 ∷ 8 ∷ 9 ∷ 10 ∷ 12 ∷ []) (rules x s p t out) (x, out) (a .verdict, (a .session, bytes))
   pub held-read : (s : List ℕ) → Refuses (1 ∷ []) (held.readRules s) noneOpen (held.readSession s)
   pub stored-write : (x : Session) (out : List ℕ) → Refuses (1 ∷ 12 ∷ []) (held.writeRules x out) out (held.writeSession x out)
   -- for C the same holds of a definition above, told; four calls have a definition of their own
@@ -106,6 +108,6 @@ pub record Demand-1 : Type 2 where
   pub buongilach-open : (consist session : List ℕ) → RefusesC (2 ∷ 4 ∷ 5 ∷ 12 ∷ []) (openRules consist session) session (openBytes consist session)
   pub buongilach-sample : (session s p t decision : List ℕ) →
       let (n, x, d) = sampleBytes session s p t decision in
-      RefusesC {S = List ℕ × List ℕ} (1 ∷ 2 ∷ 3 ∷ 6 ∷ 7 ∷ 8 ∷ 9 ∷ 10 ∷ 11 ∷ 12 ∷ []) (sampleRules session s p t decision) (session, decision) (n, (x, d))
+      RefusesC {S = List ℕ × List ℕ} (1 ∷ 2 ∷ 3 ∷ 6 ∷ 7 ∷ 8 ∷ 9 ∷ 10 ∷ 12 ∷ []) (sampleRules session s p t decision) (session, decision) (n, (x, d))
   pub buongilach-write-sample : (fields out : List ℕ) → RefusesC (3 ∷ 4 ∷ 8 ∷ 12 ∷ []) (sampleWriteRules fields out) out (sampleWritten fields out)
   pub buongilach-read-decision : (s numbers : List ℕ) → RefusesC (2 ∷ 3 ∷ 4 ∷ 12 ∷ []) (decisionRules s numbers) numbers (decisionRead s numbers)

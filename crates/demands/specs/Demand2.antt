@@ -8,7 +8,7 @@ use Rattle.refusal.specs.declared.Verdict.{Verdict}
 use Rattle.consist.specs.declared.Consist.{Consist}
 use Rattle.targets.specs.Targets.{most, count, targetAt, speedsIn}
 use Rattle.decision.specs.declared.Decision.{Decision}
-use Rattle.walk.specs.Walk.{Arrival, locationOf, isFast}
+use Rattle.walk.specs.Walk.{Arrival, locationOf}
 use Rattle.laws.specs.Literal.{walkZ, startZ}
 use Rattle.judge.specs.Judge.{isCalled, firstFrom}
 use Rattle.judge.specs.Approach.{Approach, force, ground, predictionOf, callOf}
@@ -75,8 +75,6 @@ module _ (x : Approach) where
     pub record Located : Type 0 where
       pub stop : predictionOf x (speedsIn targets most) .stop ≡ locationFor 0
       pub arrivals : predictionOf x (speedsIn targets most) .arrivals ≡ map locationFor (speedsIn targets most)
-      -- 11: "the walk's squared speed exceeds 1,000,000,000"
-      pub fast : predictionOf x (speedsIn targets most) .fast ≡ isFast (literally 0)
       -- "The cause is the first such target"
       pub call : callOf x targets ≡ firstFrom callsFor 0 (min (count targets) most)
 

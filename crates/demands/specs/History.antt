@@ -77,7 +77,7 @@ wrongTimeAfter (l ∷ h) m = let last = sampleIn (l .sample) .time in not (leb (
 -- the table, as far as a sample call uses it while a session is open
 abbrev pub rulesAt : Consist → List Lent → Lent → List Rule
 rulesAt c h l =
-    linesOpen c (wrongTimeAfter h (sampleIn (l .sample))) (predictionAt c h l .fast) (l .sample) (l .profile) (l .targets) (l .out)
+    linesOpen c (wrongTimeAfter h (sampleIn (l .sample))) (l .sample) (l .profile) (l .targets) (l .out)
 
 -- ---- a run
 

@@ -21,7 +21,7 @@ use Rattle.walk.specs.declared.Prediction.{Prediction}
 use Rattle.step.specs.declared.Run.{Run}
 use Rattle.step.specs.Curve.{forceAt}
 use Rattle.step.specs.Step.{Ground, groundOf, loss, stepTime}
-use Rattle.walk.specs.Walk.{Arrival, never, tooFast, arrivalBy, start, locationOf, predictOf}
+use Rattle.walk.specs.Walk.{Arrival, never, arrivalBy, start, locationOf, predictOf}
 use Rattle.walk.specs.Range.{Walkable}
 use Rattle.walk.proofs.predict.{signature, ended}
 use Rattle.walk.proofs.predict.Reads as predict-reads
@@ -44,10 +44,10 @@ stepAgain c force ground first r = record {
 }
 
 unfoldable pub walkAgain : Consist → (ℕ → ℕ) → Ground → Run → ℕ → ℕ → Run → Arrival
-walkAgain c force ground first limit zero r = arrivalBy (tooFast (r .q)) (leb (r .q) limit) (r .head) never
+walkAgain c force ground first limit zero r = arrivalBy (leb (r .q) limit) (r .head) never
 walkAgain c force ground first limit (suc n) r =
     let rest : Arrival = walkAgain c force ground first limit n (stepAgain c force ground first r) in
-    arrivalBy (tooFast (r .q)) (leb (r .q) limit) (r .head) rest
+    arrivalBy (leb (r .q) limit) (r .head) rest
 
 -- where it stops
 unfoldable pub stopAgain : Consist → (ℕ → ℕ) → Ground → ℕ → ℕ → ℕ
@@ -104,7 +104,7 @@ MeetsPredict w =
 
 abbrev pub WalkRepeatsStep : Walker → Type 0
 WalkRepeatsStep w =
-    (c : Consist) (curve : Curve) (track : Track) (head v : ℕ) (speeds : List ℕ) → Walkable c curve track head →
+    (c : Consist) (curve : Curve) (track : Track) (head v : ℕ) (speeds : List ℕ) → Walkable c curve track head v →
     w c curve track head v speeds .stop ≡ stopAgain c (forceAt (c .rated) curve) (groundOf track (c .length)) head v
 
 -- one meets the contract, and none that does repeats the step

@@ -13,7 +13,7 @@ use Rattle.bits.specs.Bytes.{num}
 use Rattle.bits.proofs.Fields.{split-fit}
 use Rattle.bits.proofs.Bit.{bit-fits}
 use Rattle.refusal.specs.declared.Refusal.{Refusal}
-use Rattle.refusal.specs.declared.Refusal.the-variants.{NoSession, WrongLength, WrongMark, OutOfRange, TooLight, BrokenProfile, BrokenTargets, BadReading, WrongTime, NotCovered, TooFast, NoRoom}
+use Rattle.refusal.specs.declared.Refusal.the-variants.{NoSession, WrongLength, WrongMark, OutOfRange, TooLight, BrokenProfile, BrokenTargets, BadReading, WrongTime, NotCovered, NoRoom}
 use Rattle.refusal.specs.declared.Verdict.{Verdict}
 use Rattle.refusal.specs.declared.Verdict.the-variants.{Accepted, Refused}
 use Rattle.refusal.specs.Lowest.{lowest}
@@ -50,7 +50,6 @@ refusal-fits r = omega (arith, more (numberOf r) [] (small r))
     small BadReading = omega arith
     small WrongTime = omega arith
     small NotCovered = omega arith
-    small TooFast = omega arith
     small NoRoom = omega arith
 
 record-fits : (s : List ℕ) → length (recordText (readDecision s)) ≤ room

@@ -31,5 +31,5 @@ past-head head target = go (leb head target) refl
 
 pub no-faster : NoFaster
 unfolding NoFaster isCalled
-no-faster c force ground offset head v target u slow h =
-    rw (arrival-at-head c force ground head v u slow h, offset-none offset v u h) (past-head head target)
+no-faster c force ground offset head v target u h =
+    rw (arrival-at-head c force ground head v u h, offset-none offset v u h) (past-head head target)

@@ -2,10 +2,10 @@
 -- proves them.
 use mathlib.Core.Path.{_≡_}
 use mathlib.Core.Bool.{true, false}
-use Prim.Native.Nat.{ℕ, _*_, _≤_}
+use Prim.Native.Nat.{ℕ, _≤_}
 use Rattle.record.specs.Location.{farthest}
 use Rattle.consist.specs.declared.Consist.{Consist}
-use Rattle.step.specs.Step.{squareMost, Ground}
+use Rattle.step.specs.Step.{Ground}
 use Rattle.walk.specs.Walk.{never, locationOf, arrivalFor}
 use Rattle.judge.specs.Judge.{isJudged, offsetFor, isCalled}
 
@@ -21,5 +21,5 @@ NoOffset = (offset v u : ℕ) → v ≤ u → offsetFor offset v u ≡ 0
 -- such a target's location is the head, and it never calls
 unfoldable pub NoFaster : Type 0
 NoFaster =
-    (c : Consist) (force : ℕ → ℕ) (ground : Ground) (offset head v target u : ℕ) → v * v ≤ squareMost → v ≤ u →
+    (c : Consist) (force : ℕ → ℕ) (ground : Ground) (offset head v target u : ℕ) → v ≤ u →
     isCalled offset head v target u (locationOf (arrivalFor c force ground head v u)) ≡ false

@@ -11,7 +11,7 @@ use borrow.Author.Tests.{ltb-true, lt-ltb}
 use Rattle.record.specs.Location.{farthest, noStop}
 use Rattle.targets.specs.Targets.{most, count, locationsIn, speedsIn}
 use Rattle.consist.specs.Sound.{Sound}
-use Rattle.walk.specs.Walk.{Arrival, at, never, fast, arrivalFor, locationOf, predictOf}
+use Rattle.walk.specs.Walk.{Arrival, at, never, arrivalFor, locationOf, predictOf}
 use Rattle.step.specs.Step.{Ground, groundOf}
 use Rattle.laws.specs.Compare.{NotShort, Weaker, Alike, Heavy, NeverShort}
 use Rattle.laws.proofs.Compare.{never-short}
@@ -24,15 +24,10 @@ use Rattle.laws.proofs.Offsets.{offset-grows}
 
 -- the order of arrivals is that of their numbers
 location-order : (x y : Arrival) → NotShort x y → NoFurther noStop y → locationOf y ≤ locationOf x
-location-order fast (at y) h w = w
-location-order fast never h w = le-refl _
-location-order fast fast h w = le-refl _
 location-order never (at y) h w = w
 location-order never never h w = le-refl _
-location-order never fast h w = absurd h
 location-order (at x) (at y) h w = h
 location-order (at x) never h w = absurd h
-location-order (at x) fast h w = absurd h
 
 -- there is a first wherever a test that holds less often has one
 first-some : (f g : ℕ → Bool) → ((k : ℕ) → f k ≡ true → g k ≡ true) → (k n : ℕ) → 0 < firstFrom f k n → 0 < firstFrom g k n

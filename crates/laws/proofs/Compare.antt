@@ -5,9 +5,9 @@ use mathlib.Core.Bool.{Bool, true, false}
 use Prim.Native.Nat.{ℕ, zero, suc, _+_, _*_, _-_, _≤_, _<_}
 use native.Mathlib.Nat.{le-refl, le-trans, mul-le-mul, mul-le-mul-left, mul-le-mul-right}
 use native.Mathlib.Omega.{arith}
-use lib.Dec.{ltb, leb}
+use lib.Dec.{leb}
 use lib.IntN.{ℤ, pos, _+ℤ_, _-ℤ_, _*ℤ_}
-use borrow.Author.Tests.{ltb-true, ltb-false, leb-true, leb-false}
+use borrow.Author.Tests.{leb-true, leb-false}
 use Rattle.whole.specs.Floor.{cut}
 use Rattle.whole.specs.Root.{rootOf}
 use Rattle.whole.proofs.Parts.{up, dn, up-mono, add-parts, sub-parts, times-up, times-dn}
@@ -15,10 +15,10 @@ use Rattle.whole.proofs.Floors.{floor-grows}
 use Rattle.whole.proofs.Roots.{root-mono, root-grows, root-pos}
 use Rattle.consist.specs.declared.Consist.{Consist}
 use Rattle.step.specs.declared.Run.{Run}
-use Rattle.step.specs.Step.{stepsMost, squareMost, Ground, opposing, loss, stepTime, stepOf}
-use Rattle.walk.specs.Walk.{Arrival, at, never, tooFast, arrivalBy, walkTo, arrivalFor}
+use Rattle.step.specs.Step.{stepsMost, Ground, opposing, loss, stepTime, stepOf}
+use Rattle.walk.specs.Walk.{Arrival, at, never, arrivalBy, walkTo, arrivalFor}
 use Rattle.laws.specs.Compare.{NotShort, Weaker, Alike, Heavy, Ahead, StaysAhead, NeverShort}
-use Rattle.walk.proofs.Equations.{walk-fast, walk-at, walk-never, walk-on}
+use Rattle.walk.proofs.Equations.{walk-at, walk-never, walk-on}
 use Rattle.laws.proofs.Forces.{div-le}
 
 -- ---- what q loses
@@ -86,43 +86,38 @@ stays-ahead c d f g ground r s heavy alike weaker ahead some =
 -- ---- the walk
 
 -- no walk arrives short of its start
-verdict-from : (h m : ℕ) (a b : Bool) (rest : Arrival) → h ≤ m → NotShort rest (at h) → NotShort (arrivalBy a b m rest) (at h)
-verdict-from h m true b rest l r = tt
-verdict-from h m false true rest l r = l
-verdict-from h m false false rest l r = r
+verdict-from : (h m : ℕ) (b : Bool) (rest : Arrival) → h ≤ m → NotShort rest (at h) → NotShort (arrivalBy b m rest) (at h)
+verdict-from h m true rest l r = l
+verdict-from h m false rest l r = r
 
 walk-from : (c : Consist) (f : ℕ → ℕ) (ground : Ground) (limit n : ℕ) (r : Run) (h : ℕ) → h ≤ r .head →
     NotShort (walkTo c f ground limit n r) (at h)
 unfolding walkTo stepOf
-walk-from c f ground limit zero r h l = verdict-from h (r .head) (tooFast (r .q)) (leb (r .q) limit) never l tt
+walk-from c f ground limit zero r h l = verdict-from h (r .head) (leb (r .q) limit) never l tt
 walk-from c f ground limit (suc n) r h l =
-    verdict-from h (r .head) (tooFast (r .q)) (leb (r .q) limit) _ l (walk-from c f ground limit n (stepOf c f ground r) h (omega arith))
+    verdict-from h (r .head) (leb (r .q) limit) _ l (walk-from c f ground limit n (stepOf c f ground r) h (omega arith))
 
 module _ (c d : Consist) (f g : ℕ → ℕ) (ground : Ground) (limit : ℕ) where
   abbrev InOrder : ℕ → Run → Run → Type 0
   InOrder n r s = NotShort (walkTo c f ground limit n r) (walkTo d g ground limit n s)
 
   -- at one step, given the order where both go on
-  at-arrival : (n : ℕ) (r s : Run) → Ahead r s → (r .q ≤ squareMost → limit < s .q → limit < r .q → InOrder n r s) → InOrder n r s
-  at-arrival n r s ahead on = quick (ltb squareMost (r .q)) refl
+  at-arrival : (n : ℕ) (r s : Run) → Ahead r s → (limit < s .q → limit < r .q → InOrder n r s) → InOrder n r s
+  at-arrival n r s ahead on = by (leb (s .q) limit) refl
     where
-      slow : r .q ≤ squareMost → (t : Bool) → leb (s .q) limit ≡ t → InOrder n r s
-      slow k true e = rw (walk-at d g ground limit s n (omega arith) (leb-true _ _ e)) (walk-from c f ground limit n r (s .head) (omega arith))
-      slow k false e = let b = leb-false _ _ e in on k b (omega arith)
-
-      quick : (t : Bool) → ltb squareMost (r .q) ≡ t → InOrder n r s
-      quick true e = rw (walk-fast c f ground limit r n (ltb-true _ _ e)) tt
-      quick false e = slow (ltb-false _ _ e) (leb (s .q) limit) refl
+      by : (t : Bool) → leb (s .q) limit ≡ t → InOrder n r s
+      by true e = rw (walk-at d g ground limit s n (leb-true _ _ e)) (walk-from c f ground limit n r (s .head) (omega arith))
+      by false e = let b = leb-false _ _ e in on b (omega arith)
 
   in-order : Heavy c → Alike c d → Weaker f g → (n : ℕ) (r s : Run) → Ahead r s → InOrder n r s
   unfolding StaysAhead
   in-order heavy alike weaker zero r s ahead =
-      at-arrival zero r s ahead (λ k b a. rw (walk-never c f ground limit r k a, walk-never d g ground limit s (omega arith) b) tt)
+      at-arrival zero r s ahead (λ b a. rw (walk-never c f ground limit r a) tt)
   in-order heavy alike weaker (suc n) r s ahead =
       let ih = in-order heavy alike weaker n (stepOf c f ground r) (stepOf d g ground s) in
       let next : (0 < s .q) → Ahead (stepOf c f ground r) (stepOf d g ground s) = stays-ahead c d f g ground r s heavy alike weaker ahead in
       at-arrival (suc n) r s ahead
-      (λ k b a. rw (walk-on c f ground limit r n k a, walk-on d g ground limit s n (omega arith) b) (ih (next (omega arith))))
+      (λ b a. rw (walk-on c f ground limit r n a, walk-on d g ground limit s n b) (ih (next (omega arith))))
 
 pub never-short : NeverShort
 unfolding NeverShort arrivalFor

@@ -4,6 +4,7 @@ pub mod SampleTrip
 pub mod HeldTrip
 pub mod HeldDamage
 pub mod Literal
+pub mod Tested
 pub mod Forces
 pub mod Compare
 pub mod Offsets

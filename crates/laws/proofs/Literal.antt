@@ -2,27 +2,27 @@
 use mathlib.Core.Path.{_≡_, refl, ap}
 use Prim.Native.Nat.{ℕ, zero, suc, _*_}
 use native.Mathlib.Omega.{arith}
-use lib.Dec.{leb, ltb}
+use lib.Dec.{leb}
 use lib.IntN.{ℤ, pos, negsuc}
 use borrow.Author.Tests.{le-leb}
 use Rattle.whole.specs.Floor.{cut}
 use Rattle.consist.specs.declared.Consist.{Consist}
-use Rattle.step.specs.Step.{stepsMost, squareMost, Ground, stepOf}
-use Rattle.walk.specs.Walk.{Arrival, at, never, tooFast, arrivalBy, walkTo, arrivalFor}
+use Rattle.step.specs.Step.{stepsMost, Ground, stepOf}
+use Rattle.walk.specs.Walk.{Arrival, at, never, arrivalBy, walkTo, arrivalFor}
 use Rattle.laws.specs.Literal.{stepZ, walkZ, Literally}
 
 -- a squared speed below zero is at most any limit
-below : (limit h : ℕ) (rest : Arrival) → at h ≡ arrivalBy (ltb squareMost 0) (leb 0 limit) h rest
+below : (limit h : ℕ) (rest : Arrival) → at h ≡ arrivalBy (leb 0 limit) h rest
 below limit h rest = rw (le-leb 0 limit (omega arith))
 
 same : (c : Consist) (force : ℕ → ℕ) (ground : Ground) (limit n head clock : ℕ) (q : ℤ) →
     walkZ c force ground limit n (record { head = head; clock = clock; q = q })
     ≡ walkTo c force ground limit n (record { head = head; clock = clock; q = cut q })
-unfolding walkZ walkTo stepZ stepOf tooFast
+unfolding walkZ walkTo stepZ stepOf
 same c force ground limit zero head clock (pos a) = refl
 same c force ground limit zero head clock (negsuc a) = below limit head never
 same c force ground limit (suc n) head clock (pos a) =
-    ap (arrivalBy (ltb squareMost a) (leb a limit) head) (same c force ground limit n _ _ _)
+    ap (arrivalBy (leb a limit) head) (same c force ground limit n _ _ _)
 same c force ground limit (suc n) head clock (negsuc a) = below limit head _
 
 pub literally : Literally

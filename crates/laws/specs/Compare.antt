@@ -4,17 +4,13 @@ use Prim.Native.Nat.{ℕ, _*_, _≤_, _<_}
 use Rattle.consist.specs.declared.Consist.{Consist}
 use Rattle.step.specs.declared.Run.{Run}
 use Rattle.step.specs.Step.{Ground, stepOf}
-use Rattle.walk.specs.Walk.{Arrival, at, never, fast, arrivalFor}
+use Rattle.walk.specs.Walk.{Arrival, at, never, arrivalFor}
 
--- the first arrival is not short of the second: none is beyond every location, and a walk that is too fast is beyond both
+-- the first arrival is not short of the second: none is beyond every location
 abbrev pub NotShort : Arrival → Arrival → Type 0
-NotShort fast y = Unit {0}
-NotShort never (at y) = Unit {0}
-NotShort never never = Unit {0}
-NotShort never fast = ⊥
+NotShort never y = Unit {0}
 NotShort (at x) (at y) = y ≤ x
 NotShort (at x) never = ⊥
-NotShort (at x) fast = ⊥
 
 -- neither force falls as t grows, and the first is nowhere above the second at the same t
 pub record Weaker (f g : ℕ → ℕ) : Type 0 where

@@ -5,8 +5,10 @@ pub mod SampleTrip
 pub mod HeldTrip
 -- what damage to a session's record is seen
 pub mod HeldDamage
--- document 01's walk to the letter, and the comparison behind demand 3
+-- document 01's walk to the letter, and with its test for 11
 pub mod Literal
+pub mod Tested
+-- the comparison behind demand 3
 pub mod Compare
 pub mod Approaches
 -- figures by computation

@@ -3,11 +3,11 @@
 use mathlib.Core.Path.{_≡_}
 use Prim.Native.Nat.{ℕ, zero, suc, _+_, _*_}
 use lib.IntN.{ℤ, pos, _-ℤ_}
-use lib.Signed.{leZ, ltZ}
+use lib.Signed.{leZ}
 use Rattle.whole.specs.Floor.{cut}
 use Rattle.whole.specs.Root.{rootOf}
 use Rattle.consist.specs.declared.Consist.{Consist}
-use Rattle.step.specs.Step.{stepsMost, squareMost, Ground, loss, stepTime}
+use Rattle.step.specs.Step.{stepsMost, Ground, loss, stepTime}
 use Rattle.walk.specs.Walk.{Arrival, never, arrivalBy, arrivalFor}
 
 pub record RunZ : Type 0 where
@@ -27,10 +27,10 @@ stepZ c force ground r =
 
 -- "The stopping location is the head when q first is 0 or less."
 unfoldable pub walkZ : Consist → (ℕ → ℕ) → Ground → ℕ → ℕ → RunZ → Arrival
-walkZ c force ground limit zero r = arrivalBy (ltZ (pos squareMost) (r .q)) (leZ (r .q) (pos limit)) (r .head) never
+walkZ c force ground limit zero r = arrivalBy (leZ (r .q) (pos limit)) (r .head) never
 walkZ c force ground limit (suc n) r =
     let rest : Arrival = walkZ c force ground limit n (stepZ c force ground r) in
-    arrivalBy (ltZ (pos squareMost) (r .q)) (leZ (r .q) (pos limit)) (r .head) rest
+    arrivalBy (leZ (r .q) (pos limit)) (r .head) rest
 
 abbrev pub startZ : ℕ → ℕ → RunZ
 startZ head v = record { head = head; clock = 0; q = pos (v * v) }

@@ -7,7 +7,7 @@ use lib.Dec.{leb, eqb}
 use borrow.Author.Tests.{le-leb}
 use Rattle.record.specs.Location.{farthest, noStop}
 use Rattle.targets.specs.Targets as targets
-use Rattle.walk.specs.Walk.{Arrival, at, never, fast, reach, locationOf, predictOf}
+use Rattle.walk.specs.Walk.{Arrival, at, never, reach, locationOf, predictOf}
 use Rattle.walk.proofs.Reach.{NoFurther, arrival-no-further}
 use Rattle.judge.specs.Approach.{Approach, force, ground, arrivalOf, predictionOf, callOf}
 use Rattle.judge.proofs.Causes.{cause-most}
@@ -16,7 +16,6 @@ use Rattle.prediction.specs.Prediction.{outcomeOf}
 right-location : (y : Arrival) → NoFurther farthest y → (leb (locationOf y) farthest || eqb (locationOf y) noStop) ≡ true
 right-location (at h) w = ap (λ (b : Bool). b || eqb h noStop) (le-leb h farthest w)
 right-location never w = refl
-right-location fast w = refl
 
 module _ (x : Approach) (t : List ℕ) where
   pub called-most : outcomeOf x t .called ≤ targets.most

@@ -30,10 +30,12 @@ module _ (c : Consist) (k : Brake) (m : Sample) (p : List ℕ) where
     head = head;
   }
 
-  pub walkable : Ready c k m p → Walkable c (penaltyCurve c (k .a) (k .b)) (layOf p) (m .head)
+  pub walkable : Ready c k m p → Walkable c (penaltyCurve c (k .a) (k .b)) (layOf p) (m .head) (m .speed)
   walkable h = record {
+    limited = record { lightest = omega arith; heaviest = omega arith; axles = omega arith };
     rated = omega arith;
     curve = penalty-braking c (k .a) (k .b) (omega arith) (omega arith) (omega arith) (omega arith);
     track = h .track;
     head = h .head;
+    speed = h .sample .speed;
   }

@@ -13,6 +13,6 @@ use Rattle.prediction.specs.declared.Outcome.{Outcome}
 abbrev pub approachOf : Consist → Brake → Sample → List ℕ → Approach
 approachOf c k m p = record { consist = c; a = k .a; b = k .b; track = layOf p; head = m .head; speed = m .speed }
 
--- whether the walk is refused, the stop, and the cause that is called for before the targets that these bytes are
+-- the stop, and the cause that is called for before the targets that these bytes are
 abbrev pub outcomeOf : Approach → (targets : List ℕ) → Outcome
-outcomeOf x t = let found = predictionOf x (speedsIn t most) in record { fast = found .fast; stop = found .stop; called = callOf x t }
+outcomeOf x t = record { stop = predictionOf x (speedsIn t most) .stop; called = callOf x t }

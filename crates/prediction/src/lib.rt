@@ -16,9 +16,8 @@ pub struct Listed {
     pub speeds: [u16; Target::MOST],
 }
 
-// Whether q exceeded its bound, the stopping location, and the cause that is called for, 0 for none.
+// The stopping location, and the cause that is called for, 0 for none.
 pub struct Outcome {
-    pub fast: bool,
     pub stop: u32,
     pub called: u8,
 }
@@ -64,7 +63,6 @@ pub fn of_sample(c: Consist, k: Brake, m: Sample, p: &[u8], t: &[u8]) -> Outcome
         arrivals,
     );
     Outcome {
-        fast: found.fast,
         stop: found.stop,
         called,
     }

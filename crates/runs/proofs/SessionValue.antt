@@ -4,6 +4,7 @@ use mathlib.Core.Bool.{Bool, true, false}
 use mathlib.Core.List.{List, [], _∷_}
 use Prim.Native.Nat.{ℕ, zero, suc, _<_, _^_}
 use lib.Dec.{lit<}
+use lib.ListN.{getD}
 use mir.Syntax.{Width, w8, w16, w32}
 use mir.Val.{Val, bits, vunit, vbool, vint, vfloat, vptr, vstruct, asInt, asBool}
 use mir.Fields.{getV}
@@ -13,7 +14,7 @@ use denote.Struct.Laws.{owes, owed}
 use denote.Enum.Laws as enum
 use Rattle.bits.specs.Fields.{bit}
 use Rattle.refusal.specs.declared.Refusal.{Refusal}
-use Rattle.refusal.specs.declared.Refusal.the-variants.{NoSession, WrongLength, WrongMark, OutOfRange, TooLight, BrokenProfile, BrokenTargets, BadReading, WrongTime, NotCovered, TooFast, NoRoom}
+use Rattle.refusal.specs.declared.Refusal.the-variants.{NoSession, WrongLength, WrongMark, OutOfRange, TooLight, BrokenProfile, BrokenTargets, BadReading, WrongTime, NotCovered, NoRoom}
 use Rattle.refusal.specs.declared.Verdict.{Verdict}
 use Rattle.refusal.specs.declared.Verdict.the-variants.{Accepted, Refused}
 use Rattle.refusal.specs.Number.{numberOf, numberOfVerdict}
@@ -34,6 +35,7 @@ use Rattle.session.specs.Session.{Told, sessionTold, answerTold}
 use Rattle.session.proofs.Session as session-type
 use Rattle.session.proofs.Session.Laws as session-value
 use Rattle.session.proofs.Answer.Laws as answer-value
+use Rattle.demands.specs.Demand1.{tableNumbers}
 use Rattle.demands.specs.Program.{FitsWords}
 
 -- ---- a session that fits its words has a value, and no other
@@ -107,8 +109,12 @@ part (vstruct vs) i = getV vs i
 truth : Val → Bool
 truth v = asBool false v (λ b. b)
 
+-- the number of the refusal at this place of the enum
+numberAt : ℕ → ℕ
+numberAt place = getD tableNumbers place zero
+
 verdictIn : Val → ℕ
-verdictIn v = verdictOf (number (part v 0)) (suc (number (part (part v 1) 0)))
+verdictIn v = verdictOf (number (part v 0)) (numberAt (number (part (part v 1) 0)))
   where
     verdictOf : ℕ → ℕ → ℕ
     verdictOf zero n = zero
@@ -140,11 +146,11 @@ session-read x =
     state-read Charging = refl
 
 verdict-read : (v : Verdict) → verdictIn (verdict-value.lowered v) ≡ numberOfVerdict v
-unfolding part number verdictIn
+unfolding part number numberAt verdictIn
 verdict-read Accepted = refl
 verdict-read (Refused r) = refusal-read r
   where
-    refusal-read : (r : Refusal) → suc (number (part (refusal-value.lowered r) 0)) ≡ numberOf r
+    refusal-read : (r : Refusal) → numberAt (number (part (refusal-value.lowered r) 0)) ≡ numberOf r
     refusal-read NoSession = refl
     refusal-read WrongLength = refl
     refusal-read WrongMark = refl
@@ -155,7 +161,6 @@ verdict-read (Refused r) = refusal-read r
     refusal-read BadReading = refl
     refusal-read WrongTime = refl
     refusal-read NotCovered = refl
-    refusal-read TooFast = refl
     refusal-read NoRoom = refl
 
 answerIn : Val → ℕ × Told

@@ -45,7 +45,6 @@ pub after-is : (x : Session) (m : Sample) (p t : List ℕ) (k : Brake) (f : Outc
     → _≡_ {A = After} (record {
       session = record { opened = true; consist = x .consist; brake = k; cause = cause };
       decision = record { time = m .time; state = state; penalty = not (eqb cause 0); cause = cause; stop = f .stop };
-      fast = f .fast;
     }) (afterOf x m p t)
 unfolding causeAfter
 after-is x m p t k f cause state hk hf hs hn =

@@ -1,23 +1,21 @@
 -- What a sample call answers, and what it leaves in the session and the lent bytes. Assumes nothing.
 use mathlib.Core.Path.{_≡_, refl, sym, ap, ap₂, _∙_}
-use mathlib.Core.Bool.{true, false}
-use mathlib.Core.List.{List, _++_}
+use mathlib.Core.Bool.{false}
+use mathlib.Core.List.{List}
 use Prim.Native.Nat.{ℕ}
-use lib.ListN.{drop}
 use Rattle.refusal.specs.Lowest.{lowest}
 use Rattle.refusal.specs.Steps.{kept}
-use Rattle.refusal.specs.Written.{noRoom, written}
+use Rattle.refusal.specs.Written.{written}
 use Rattle.refusal.specs.declared.Refusal.{Refusal}
-use Rattle.refusal.specs.declared.Refusal.the-variants.{TooFast}
 use Rattle.refusal.specs.declared.Verdict.{Verdict}
 use Rattle.refusal.specs.declared.Verdict.the-variants.{Accepted, Refused}
 use Rattle.refusal.proofs.Exactly.{written-verdict}
-use Rattle.refusal.proofs.Order.{given, passed, last-passed, append-given, append-passed}
+use Rattle.refusal.proofs.Order.{passed, append-given, append-passed}
 use Rattle.decision.specs.Decision as decision
 use Rattle.session.specs.declared.Session.{Session}
 use Rattle.session.specs.declared.Answer.{Answer}
 use Rattle.session.specs.Session.{answer, refusedWith}
-use Rattle.sampling.specs.Sample.{sampleIn, prediction, rules, decisionOf, sessionAfter, sampleCall}
+use Rattle.sampling.specs.Sample.{sampleIn, rules, decisionOf, sessionAfter, sampleCall}
 use Rattle.sampling.specs.Steps.{rulesBefore}
 
 module _ (x : Session) (s p t out : List ℕ) where
@@ -36,23 +34,14 @@ module _ (x : Session) (s p t out : List ℕ) where
 
   -- past what is judged before the walk
   module _ (h : lowest (rulesBefore x s p t) ≡ Accepted) where
-    pub call-fast : prediction x (sampleIn s) p t .fast ≡ true → sampleCall x s p t out ≡ (refusedWith x TooFast, out)
-    call-fast f = answered (Refused TooFast) (append-passed (rulesBefore x s p t) _ h ∙ given _ _ _ tt f)
-
-    pub call-accepted : prediction x (sampleIn s) p t .fast ≡ false → noRoom decision.size out ≡ false
-        → sampleCall x s p t out
-        ≡ (record { session = sessionAfter x (sampleIn s) p t; verdict = Accepted }, decision.bytesOf (decisionOf x (sampleIn s) p t) ++ drop decision.size out)
-    unfolding decision.bytesOf
-    call-accepted f r = answered Accepted (append-passed (rulesBefore x s p t) _ h ∙ passed _ _ _ f ∙ last-passed _ _ r)
-
     -- what the writer of a decision in range says is handed on
-    pub call-written : prediction x (sampleIn s) p t .fast ≡ false → decision.outOfRange (decisionOf x (sampleIn s) p t) ≡ false
+    pub call-written : decision.outOfRange (decisionOf x (sampleIn s) p t) ≡ false
         → (v : Verdict) (last : List ℕ) → (v, last) ≡ decision.writeDecision (decisionOf x (sampleIn s) p t) out → sampleCall x s p t out ≡ (moved v, last)
     unfolding decision.writeDecision
-    call-written f fine v last w =
+    call-written fine v last w =
         let d = decisionOf x (sampleIn s) p t in
         let e : decision.writeDecision d out ≡ written (lowest (rules x s p t out)) (decision.bytesOf d) out =
-        ap (λ (u : Verdict). written u (decision.bytesOf d) out) (passed _ _ _ fine ∙ sym (append-passed (rulesBefore x s p t) _ h ∙ passed _ _ _ f)) in
+        ap (λ (u : Verdict). written u (decision.bytesOf d) out) (passed _ _ _ fine ∙ sym (append-passed (rulesBefore x s p t) _ h)) in
         let found = w ∙ e in
         let a : v ≡ lowest (rules x s p t out) = (λ i. found i .0) ∙ written-verdict (lowest (rules x s p t out)) (decision.bytesOf d) out in
         answered _ refl ∙ ap₂ (λ (u : Verdict) (l : List ℕ). (moved u, l)) (sym a) (sym (λ i. found i .1))

@@ -72,7 +72,7 @@ openFirst x lines = (notOpen x, NoSession) ∷ lines
 
 -- from 2 on, of this session
 abbrev pub linesOf : Session → (s p t out : List ℕ) → List Rule
-linesOf x s p t out = let m = sampleIn s in linesOpen (x .consist) (wrongTime (x .brake) m) (prediction x m p t .fast) s p t out
+linesOf x s p t out = let m = sampleIn s in linesOpen (x .consist) (wrongTime (x .brake) m) s p t out
 
 -- the table, as far as a sample call uses it
 abbrev pub rules : Session → (s p t out : List ℕ) → List Rule

@@ -11,11 +11,10 @@ ghost use Rattle.session.specs.Session.{callTold};
 ghost use Rattle.sampling.specs.Sample.{sampleCall};
 ghost use Rattle.sampling.specs.Steps.{afterOf};
 
-// What an admitted sample makes of the session, what is decided, and whether the walk was too fast.
+// What an admitted sample makes of the session, and what is decided.
 pub struct After {
     pub session: Session,
     pub decision: Decision,
-    pub fast: bool,
 }
 
 // The update, the prediction, the standing penalty, the decision.
@@ -43,11 +42,7 @@ fn advance(x: Session, m: Sample, p: &[u8], t: &[u8]) -> After
         brake: updated,
         cause,
     };
-    After {
-        session,
-        decision,
-        fast: found.fast,
-    }
+    After { session, decision }
 }
 
 // Judges a sample, with the profile and the targets lent for it, and writes the decision to the front of `out`.
@@ -74,12 +69,6 @@ pub fn sample(x: Session, s: &[u8], p: &[u8], t: &[u8], out: &mut [u8]) -> Answe
     let next = advance(x, m, p, t);
     let session = next.session;
     let decided = next.decision;
-    if next.fast {
-        return Answer {
-            session: x,
-            verdict: Verdict::Refused(Refusal::TooFast),
-        };
-    }
     let written = decision::write(decided, out);
     let Verdict::Accepted = written else {
         return Answer {

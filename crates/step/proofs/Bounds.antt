@@ -10,8 +10,8 @@ use Rattle.consist.specs.declared.Consist.{Consist}
 use Rattle.track.specs.declared.Under.{Under}
 use Rattle.step.specs.declared.Curve.{Curve}
 use Rattle.step.specs.Curve.{dropAt, cylinderAt, forceAt, penaltyCurve}
-use Rattle.step.specs.Step.{squareMost, opposing, stepTime}
-use Rattle.step.specs.Range.{Braking, Opposed, rootMost, timeMost}
+use Rattle.step.specs.Step.{opposing, stepTime}
+use Rattle.step.specs.Range.{Braking, Opposed, squareMost, rootMost, timeMost}
 
 -- ---- the brake force
 

@@ -1,3 +1,4 @@
 -- Laws of a step, and the contracts' uniqueness.
 pub mod Bounds
+pub mod Gain
 pub mod Unique

@@ -6,7 +6,7 @@ use Rattle.consist.specs.declared.Consist.{Consist}
 use Rattle.track.specs.declared.Under.{Under}
 use Rattle.step.specs.declared.Curve.{Curve}
 use Rattle.step.specs.declared.Run.{Run}
-use Rattle.step.specs.Step.{stepsMost, squareMost}
+use Rattle.step.specs.Step.{stepsMost}
 
 -- a curve that divides by something, and whose pressures are those of a brake or above them: the bounds leave room for another curve
 pub record Braking (k : Curve) : Type 0 where
@@ -20,7 +20,11 @@ pub record Braking (k : Curve) : Type 0 where
 abbrev pub timeMost : ℕ
 timeMost = 1090909
 
--- the greatest root, of the greatest q
+-- the greatest q that a step is made from; by Gain no walk comes near it
+abbrev pub squareMost : ℕ
+squareMost = 1000000000
+
+-- its root
 abbrev pub rootMost : ℕ
 rootMost = 31622
 

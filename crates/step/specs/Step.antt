@@ -13,10 +13,6 @@ use Rattle.step.specs.declared.Run.{Run}
 abbrev pub stepsMost : ℕ
 stepsMost = 2048
 
--- the greatest q that a step is made from; past it a walk is refused
-abbrev pub squareMost : ℕ
-squareMost = 1000000000
-
 -- G and C by the head's location
 pub record Ground : Type 0 where
   pub grade : ℕ → ℤ

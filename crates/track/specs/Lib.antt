@@ -1,7 +1,9 @@
 -- The track under the train.
--- Track is the paper: "Train from head minus length to head. G and C are the sums ..". Gentle is the product's: what a walk may count on.
+-- Track is the paper: "Train from head minus length to head. G and C are the sums ..". Rising and Gentle are the product's: the feet of each
+-- segment under the train, and what a walk may count on.
 -- Figures: a statement, worked averages. Steps only serves proofs: what the code finds on the way to the averages.
 pub mod Track
 pub mod Steps
+pub mod Rising
 pub mod Gentle
 pub mod Figures

@@ -16,11 +16,12 @@ use Rattle.record.specs.Location.{farthest, noStop}
 use Rattle.consist.specs.declared.Consist.{Consist}
 use Rattle.targets.specs.Targets.{most}
 use Rattle.step.specs.declared.Run.{Run}
-use Rattle.step.specs.Step.{stepsMost, squareMost, Ground, stepOf}
-use Rattle.walk.specs.Walk.{Arrival, at, never, fast, walkTo, start, arrivalFor, locationOf, isFast, predictOf}
+use Rattle.step.specs.Step.{stepsMost, Ground, stepOf}
+use Rattle.walk.specs.Walk.{Arrival, at, never, walkTo, start, arrivalFor, locationOf, predictOf}
 use Rattle.step.specs.Range.{timeMost}
+use Rattle.step.specs.Gain.{gainMost}
 use Rattle.walk.specs.Marks.{markOf, Marked, Open, predictionWith}
-use Rattle.walk.proofs.Equations.{walk-fast, walk-at, walk-never, walk-on}
+use Rattle.walk.proofs.Equations.{walk-at, walk-never, walk-on}
 use Rattle.step.proofs.Bounds.{time-most}
 
 -- ---- one target speed u, whose location is l
@@ -38,15 +39,7 @@ abbrev FoundOrLater : ℕ → ℕ → ℕ → ℕ → ℕ → Type 0
 FoundOrLater u l q arrival later = ((eqb arrival noStop ≡ false) × (arrival ≡ l)) ⊎ ((arrival ≡ noStop) × (u * u < q) × (l ≡ later))
 
 module _ {c : Consist} {force : ℕ → ℕ} {ground : Ground} {u l n : ℕ} {r : Run} {arrival : ℕ} (sought : Sought c force ground u l n r arrival) where
-  -- a walk that is too fast finds no more
-  found-fast : squareMost < r .q → arrival ≡ l
-  found-fast h = go (eqb arrival noStop) refl (sought .is)
-    where
-      go : (b : Bool) → eqb arrival noStop ≡ b → l ≡ cond b (toCome c force ground u n r) arrival → arrival ≡ l
-      go true e k = eqb-true arrival noStop e ∙ sym (k ∙ ap locationOf (walk-fast c force ground (u * u) r n h))
-      go false e k = sym k
-
-  module _ (slow : r .q ≤ squareMost) (near : r .head < noStop) where
+  module _ (near : r .head < noStop) where
     found-or-later : FoundOrLater u l (r .q) (markOf r u arrival) (toCome c force ground u n r)
     unfolding markOf
     found-or-later = go (eqb arrival noStop) (leb (r .q) (u * u)) refl refl (sought .is)
@@ -54,7 +47,7 @@ module _ {c : Consist} {force : ℕ → ℕ} {ground : Ground} {u l n : ℕ} {r 
         go : (a b : Bool) → eqb arrival noStop ≡ a → leb (r .q) (u * u) ≡ b → l ≡ cond a (toCome c force ground u n r) arrival
             → FoundOrLater u l (r .q) (cond (a && b) (r .head) arrival) (toCome c force ground u n r)
         go true true e f k =
-            inl (ne-eqb (r .head) noStop (λ z. omega arith), sym (k ∙ ap locationOf (walk-at c force ground (u * u) r n slow (leb-true _ _ f))))
+            inl (ne-eqb (r .head) noStop (λ z. omega arith), sym (k ∙ ap locationOf (walk-at c force ground (u * u) r n (leb-true _ _ f))))
         go true false e f k = inr (eqb-true arrival noStop e, leb-false _ _ f, k)
         go false b e f k = inl (e, sym k)
 
@@ -64,7 +57,7 @@ module _ {c : Consist} {force : ℕ → ℕ} {ground : Ground} {u l n : ℕ} {r 
     found-last : n ≡ 0 → markOf r u arrival ≡ l
     found-last h =
         ⊎-elim (λ f. f .1)
-        (λ f. f .0 ∙ sym (f .2 ∙ ap (λ (k : ℕ). toCome c force ground u k r) h ∙ ap locationOf (walk-never c force ground (u * u) r slow (f .1))))
+        (λ f. f .0 ∙ sym (f .2 ∙ ap (λ (k : ℕ). toCome c force ground u k r) h ∙ ap locationOf (walk-never c force ground (u * u) r (f .1))))
         found-or-later
 
     sought-on : (k : ℕ) → n ≡ suc k → Sought c force ground u l k (stepOf c force ground r) (markOf r u arrival)
@@ -72,7 +65,7 @@ module _ {c : Consist} {force : ℕ → ℕ} {ground : Ground} {u l n : ℕ} {r 
         record {
           is = ⊎-elim (λ f. rw (f .0) (sym (f .1)))
               (λ f. rw (eq-eqb (markOf r u arrival) noStop (f .0))
-              (f .2 ∙ ap (λ (j : ℕ). toCome c force ground u j r) h ∙ ap locationOf (walk-on c force ground (u * u) r k slow (f .1))))
+              (f .2 ∙ ap (λ (j : ℕ). toCome c force ground u j r) h ∙ ap locationOf (walk-on c force ground (u * u) r k (f .1))))
               found-or-later;
         }
 
@@ -83,6 +76,7 @@ pub record Walked (c : Consist) (force : ℕ → ℕ) (ground : Ground) (head v 
   pub steps : n ≤ stepsMost
   pub head-is : r .head ≡ head + 16 * n
   pub clock-most : r .clock ≤ n * timeMost
+  pub square-most : r .q ≤ v * v + gainMost * n
   pub size : length arrivals ≡ most
   pub stop : arrivalFor c force ground head v 0 ≡ walkTo c force ground 0 (stepsMost - n) r
   pub each : (i : ℕ) → i < most →
@@ -96,6 +90,7 @@ walk-begins c force ground head v speeds =
       steps = omega arith;
       head-is = omega arith;
       clock-most = omega arith;
+      square-most = omega arith;
       size = refl;
       stop = refl;
       each = λ i h. record { is = rw (getD-replicate most i noStop 0 h) };
@@ -122,44 +117,43 @@ mapped f (u ∷ us) (p ∷ ps) e h = ap₂ _∷_ (h 0 (zero-lt-suc _)) (mapped f
 module _ {c : Consist} {force : ℕ → ℕ} {ground : Ground} {head v : ℕ} {speeds : List ℕ} {n : ℕ} {r : Run} {arrivals : List ℕ}
     (eight : length speeds ≡ most) (w : Walked c force ground head v speeds n r arrivals) where
   abbrev pub Answers : Arrival → List ℕ → Type 0
-  Answers p ps = predictionWith (isFast p) (locationOf p) ps ≡ predictOf c force ground head v speeds
+  Answers p ps = predictionWith (locationOf p) ps ≡ predictOf c force ground head v speeds
 
   -- from the stop's arrival and from every other
   answer : (p : Arrival) (ps : List ℕ) → length ps ≡ most → arrivalFor c force ground head v 0 ≡ p
       → ((i : ℕ) → i < most → getD ps i 0 ≡ locationOf (arrivalFor c force ground head v (getD speeds i 0))) → Answers p ps
   unfolding predictOf
   answer p ps size e h =
-      ap₂ (λ (q : Arrival) (qs : List ℕ). predictionWith (isFast q) (locationOf q) qs) (sym e)
+      ap₂ (λ (q : Arrival) (qs : List ℕ). predictionWith (locationOf q) qs) (sym e)
       (mapped (λ (u : ℕ). locationOf (arrivalFor c force ground head v u)) speeds ps (size ∙ sym eight) (λ i k. h i (omega arith)))
 
-  pub answer-fast : squareMost < r .q → Answers fast arrivals
-  answer-fast h = answer fast arrivals (w .size) (w .stop ∙ walk-fast c force ground 0 r (stepsMost - n) h) (λ i k. found-fast (w .each i k) h)
-
-  module _ {now : List ℕ} (marked : Marked r speeds arrivals now) (slow : r .q ≤ squareMost) (near : head ≤ farthest) where
+  module _ {now : List ℕ} (marked : Marked r speeds arrivals now) (near : head ≤ farthest) where
     near-stop : r .head < noStop
     near-stop = omega arith
 
     pub answer-stop : r .q ≡ 0 → Answers (at (r .head)) now
     answer-stop h =
-        answer (at (r .head)) now (marked .size) (w .stop ∙ walk-at c force ground 0 r (stepsMost - n) slow (omega arith))
-        (λ i k. marked .each i k ∙ found-stop (w .each i k) slow near-stop h)
+        answer (at (r .head)) now (marked .size) (w .stop ∙ walk-at c force ground 0 r (stepsMost - n) (omega arith))
+        (λ i k. marked .each i k ∙ found-stop (w .each i k) near-stop h)
 
     pub answer-never : 0 < r .q → n ≡ stepsMost → Answers never now
     answer-never h e =
         let z : stepsMost - n ≡ 0 = omega arith in
         answer never now (marked .size)
-        (w .stop ∙ ap (λ (k : ℕ). walkTo c force ground 0 k r) z ∙ walk-never c force ground 0 r slow h)
-        (λ i k. marked .each i k ∙ found-last (w .each i k) slow near-stop z)
+        (w .stop ∙ ap (λ (k : ℕ). walkTo c force ground 0 k r) z ∙ walk-never c force ground 0 r h)
+        (λ i k. marked .each i k ∙ found-last (w .each i k) near-stop z)
 
-    pub walks-on : 0 < r .q → n < stepsMost → Walked c force ground head v speeds (n + 1) (stepOf c force ground r) now
+    pub walks-on : 0 < r .q → n < stepsMost → stepOf c force ground r .q ≤ r .q + gainMost
+        → Walked c force ground head v speeds (n + 1) (stepOf c force ground r) now
     unfolding stepOf
-    walks-on h l =
+    walks-on h l gained =
         let e : stepsMost - n ≡ suc (stepsMost - (n + 1)) = omega arith in
         record {
           steps = omega arith;
           head-is = omega arith;
           clock-most = omega (arith, time-most (rootOf (r .q)) (root-pos (r .q) h));
+          square-most = omega (arith, w .square-most, gained);
           size = marked .size;
-          stop = w .stop ∙ ap (λ (k : ℕ). walkTo c force ground 0 k r) e ∙ walk-on c force ground 0 r (stepsMost - (n + 1)) slow h;
-          each = λ i k. rw (marked .each i k) (sought-on (w .each i k) slow near-stop (stepsMost - (n + 1)) e);
+          stop = w .stop ∙ ap (λ (k : ℕ). walkTo c force ground 0 k r) e ∙ walk-on c force ground 0 r (stepsMost - (n + 1)) h;
+          each = λ i k. rw (marked .each i k) (sought-on (w .each i k) near-stop (stepsMost - (n + 1)) e);
         }

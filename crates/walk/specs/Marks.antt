@@ -1,6 +1,6 @@
 -- How one pass keeps the locations for as many speeds as there may be targets. Definitions only.
 use mathlib.Core.Path.{_≡_}
-use mathlib.Core.Bool.{Bool, cond, _&&_}
+use mathlib.Core.Bool.{cond, _&&_}
 use mathlib.Core.List.{List}
 use Prim.Native.Nat.{ℕ, _*_, _≤_, _<_}
 use lib.Dec.{leb, eqb}
@@ -22,5 +22,5 @@ pub record Marked (r : Run) (speeds before after : List ℕ) : Type 0 where
 pub record Open (speeds arrivals : List ℕ) (next : ℕ) : Type 0 where
   pub below : (i : ℕ) → i < most → getD arrivals i 0 ≡ noStop → getD speeds i 0 * getD speeds i 0 ≤ next
 
-abbrev pub predictionWith : Bool → ℕ → List ℕ → Prediction
-predictionWith fast stop arrivals = record { fast = fast; stop = stop; arrivals = arrivals }
+abbrev pub predictionWith : ℕ → List ℕ → Prediction
+predictionWith stop arrivals = record { stop = stop; arrivals = arrivals }

@@ -2,39 +2,33 @@
 use mathlib.Core.Bool.{Bool, true, false}
 use mathlib.Core.List.{List, map}
 use Prim.Native.Nat.{ℕ, zero, suc, _*_}
-use lib.Dec.{leb, ltb}
+use lib.Dec.{leb}
 use Rattle.record.specs.Location.{noStop}
 use Rattle.consist.specs.declared.Consist.{Consist}
 use Rattle.step.specs.declared.Run.{Run}
 use Rattle.walk.specs.declared.Prediction.{Prediction}
-use Rattle.step.specs.Step.{stepsMost, squareMost, Ground, stepOf}
+use Rattle.step.specs.Step.{stepsMost, Ground, stepOf}
 
 -- how far the steps go
 abbrev pub reach : ℕ
 reach = 32768
 
--- a location, none in the steps allowed, or a squared speed past its bound on the way
+-- a location, or none in the steps allowed
 pub data Arrival : Type 0 where
   at : ℕ → Arrival
   never : Arrival
-  fast : Arrival
 
--- 11: "the walk's squared speed exceeds 1,000,000,000"
-unfoldable pub tooFast : ℕ → Bool
-tooFast q = ltb squareMost q
-
--- what a walk answers with its head at h: too fast; slow enough; or what the rest of it answers
-abbrev pub arrivalBy : Bool → Bool → ℕ → Arrival → Arrival
-arrivalBy true slow h rest = fast
-arrivalBy false true h rest = at h
-arrivalBy false false h rest = rest
+-- what a walk answers with its head at h: slow enough; or what the rest of it answers
+abbrev pub arrivalBy : Bool → ℕ → Arrival → Arrival
+arrivalBy true h rest = at h
+arrivalBy false h rest = rest
 
 -- the head when q first is at or below the limit, in n steps
 unfoldable pub walkTo : Consist → (ℕ → ℕ) → Ground → ℕ → ℕ → Run → Arrival
-walkTo c force ground limit zero r = arrivalBy (tooFast (r .q)) (leb (r .q) limit) (r .head) never
+walkTo c force ground limit zero r = arrivalBy (leb (r .q) limit) (r .head) never
 walkTo c force ground limit (suc n) r =
     let rest : Arrival = walkTo c force ground limit n (stepOf c force ground r) in
-    arrivalBy (tooFast (r .q)) (leb (r .q) limit) (r .head) rest
+    arrivalBy (leb (r .q) limit) (r .head) rest
 
 -- "It starts with clock t = 0, squared speed q = speed squared."
 abbrev pub start : ℕ → ℕ → Run
@@ -48,17 +42,10 @@ arrivalFor c force ground head v u = walkTo c force ground (u * u) stepsMost (st
 abbrev pub locationOf : Arrival → ℕ
 locationOf (at h) = h
 locationOf never = noStop
-locationOf fast = noStop
-
-abbrev pub isFast : Arrival → Bool
-isFast (at h) = false
-isFast never = false
-isFast fast = true
 
 -- one walk: the stop, and the location for each target speed
 unfoldable pub predictOf : Consist → (ℕ → ℕ) → Ground → ℕ → ℕ → List ℕ → Prediction
 predictOf c force ground head v speeds = record {
-  fast = isFast (arrivalFor c force ground head v 0);
   stop = locationOf (arrivalFor c force ground head v 0);
   arrivals = map (λ u. locationOf (arrivalFor c force ground head v u)) speeds;
 }

@@ -22,12 +22,8 @@ const STEPS_MOST: u32 = 2_048;
 // How far they go, at 16 ft each.
 pub const REACH: u64 = 32_768;
 
-// The greatest q that is not too fast.
-const SQUARE_MOST: u64 = 1_000_000_000;
-
-// What a walk finds: whether q exceeded its bound, the stopping location, and the location for each target speed.
+// What a walk finds: the stopping location, and the location for each target speed.
 pub struct Prediction {
-    pub fast: bool,
     pub stop: u32,
     pub arrivals: [u32; Target::MOST],
 }
@@ -89,14 +85,10 @@ fn next_mark(arrivals: [u32; Target::MOST], speeds: [u16; Target::MOST]) -> u64
     most
 }
 
-fn predicted(fast: bool, stop: u32, arrivals: [u32; Target::MOST]) -> Prediction
-    ensures { λ r. ⌜ r ≡ predictionWith fast stop arrivals ⌝ }
+fn predicted(stop: u32, arrivals: [u32; Target::MOST]) -> Prediction
+    ensures { λ r. ⌜ r ≡ predictionWith stop arrivals ⌝ }
 {
-    Prediction {
-        fast,
-        stop,
-        arrivals,
-    }
+    Prediction { stop, arrivals }
 }
 
 fn started(head: u32, speed: u16) -> Run
@@ -121,7 +113,7 @@ fn pass<'a>(
     speed: u16,
     speeds: [u16; Target::MOST],
 ) -> Prediction
-    requires { ⌜ Walkable c curve (trackOf count (now starts) (now grades) (now curvatures)) head ⌝ }
+    requires { ⌜ Walkable c curve (trackOf count (now starts) (now grades) (now curvatures)) head speed ⌝ }
     ensures { λ r. ⌜ r ≡ predictOf c (forceAt (c .rated) curve) (groundOf (trackOf count (now (starts .entry)) (now (grades .entry)) (now (curvatures .entry))) (c .length)) head speed speeds ⌝ }
 {
     let length = c.length as u32;
@@ -130,19 +122,16 @@ fn pass<'a>(
     let mut next = next_mark(arrivals, speeds);
     let mut n: u32 = 0;
     loop {
-        if SQUARE_MOST < run.q {
-            return predicted(true, record::NO_STOP, arrivals);
-        }
         if run.q <= next {
             let now = marked(arrivals, speeds, run);
             arrivals = now;
             next = next_mark(arrivals, speeds);
         }
         if run.q == 0 {
-            return predicted(false, run.head, arrivals);
+            return predicted(run.head, arrivals);
         }
         if n == STEPS_MOST {
-            return predicted(false, record::NO_STOP, arrivals);
+            return predicted(record::NO_STOP, arrivals);
         }
         let u = track::under_train(count, starts, grades, curvatures, run.head, length);
         run = run.stepped(c, curve, u);
@@ -159,7 +148,7 @@ pub fn predict(
     speed: u16,
     speeds: [u16; Target::MOST],
 ) -> Prediction
-    requires { ⌜ Walkable c curve t head ⌝ }
+    requires { ⌜ Walkable c curve t head speed ⌝ }
     ensures { λ r. ⌜ r ≡ predictOf c (forceAt (c .rated) curve) (groundOf t (c .length)) head speed speeds ⌝ }
 {
     let starts = t.starts;

@@ -46,7 +46,7 @@ returns c =
     let called : c .cause .result ≡ callOf (approach w) (now (a .t)) =
     c .cause .ensures
     ∙ (λ i. let t = l .list-targets .ensures i in causeOf (a .c .offset) (a .m .head) (a .m .speed) (t .count) (t .locations) (t .speeds) (walk i .arrivals)) in
-    λ i. record { fast = walk i .fast; stop = walk i .stop; called = called i }
+    λ i. record { stop = walk i .stop; called = called i }
 
 pub of-sample-spec : {M : Type 1} → statement M
 of-sample-spec =

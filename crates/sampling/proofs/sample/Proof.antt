@@ -20,7 +20,7 @@ use Rattle.session.specs.Session.{answer, callTold}
 use Rattle.sampling.specs.Sample.{sampleIn, sessionAfter, sampleCall}
 use Rattle.sampling.specs.Steps.{rulesBefore, afterOf}
 use Rattle.sampling.proofs.Admitted.{not-open, past-open, ready, in-range}
-use Rattle.sampling.proofs.Calls.{call-before, call-fast, call-written}
+use Rattle.sampling.proofs.Calls.{call-before, call-written}
 use borrow.Author.Needs.{needs}
 use Rattle.sampling.proofs.sample.Statement.{statement}
 use Rattle.sampling.proofs.sample.Tie as tie
@@ -93,16 +93,10 @@ advance-requires c κs =
     let k = begun (c .before) in
     subst (λ (m : Sample). Ready (x k .consist) (x k .brake) m (p k)) (admitted (c .before)) (ready (x k) (s k) (p k) (t k) (passes (c .before)))
 
-returns-3 : tie.Need-returns-3
-returns-3 c =
-    let w = c .before .before .before in
-    let k = begun (w .before .before) in
-    ap callTold (sym (call-fast (x k) (s k) (p k) (t k) (out k) (passes (w .before .before)) ((λ i. sym (after-is w) i .fast) ∙ c .if2 .taken)))
-
 -- past the walk: what the writer says of the decision is handed on
 module _ (c : tie.After-write) where
   abbrev walked : tie.After-advance
-  walked = c .before .before .before .before .before
+  walked = c .before .before .before .before
 
   abbrev entry : tie.After-is-open
   entry = begun (walked .before .before)
@@ -116,18 +110,18 @@ module _ (c : tie.After-write) where
       let before = passes (walked .before .before) in
       let a = after-is walked in
       let w = told-one (c .write .result, c .write .last .1 .0) (writeDecision (walked .advance .result .decision) (out k)) (c .write .ensures) in
-      call-written (x k) (s k) (p k) (t k) (out k) before ((λ i. sym a i .fast) ∙ c .before .before .if2 .left) (in-range (x k) (s k) (p k) (t k) before) _ _
+      call-written (x k) (s k) (p k) (t k) (out k) before (in-range (x k) (s k) (p k) (t k) before) _ _
       (w ∙ ap (λ (y : After). writeDecision (y .decision) (out k)) a)
 
-returns-4 : tie.Need-returns-4
-returns-4 c =
+returns-3 : tie.Need-returns-3
+returns-3 c =
     let k = c .before .before .before .before in
     ap callTold
     (ap (λ (y : Session). (answer y (k .write .result), k .write .last .1 .0)) (ap (λ (v : Verdict). moved k v .session) (sym (c .enum-told4 .given .1)))
     ∙ sym (call-is k))
 
-returns-5 : tie.Need-returns-5
-returns-5 c =
+returns-4 : tie.Need-returns-4
+returns-4 c =
     let k = c .before .before .before .before in
     ap callTold
     (ap (λ (y : Answer). (y, k .write .last .1 .0))
@@ -137,5 +131,5 @@ returns-5 c =
 pub sample-spec : {M : Type 1} → statement M
 sample-spec =
     tie.close
-    (tie.spec (λ c κs. search needs) returns (λ c κs. search needs) (λ c. search needs) (λ c. search needs) returns-2 advance-requires returns-3
-    (λ c κs. search needs) (λ c. search needs) (λ c. search needs) (λ c. search needs) returns-4 (λ c. search needs) returns-5)
+    (tie.spec (λ c κs. search needs) returns (λ c κs. search needs) (λ c. search needs) (λ c. search needs) returns-2 advance-requires
+    (λ c κs. search needs) (λ c. search needs) (λ c. search needs) (λ c. search needs) returns-3 (λ c. search needs) returns-4)

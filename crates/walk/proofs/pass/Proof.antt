@@ -1,7 +1,6 @@
 -- `walk::pass` meets its contract: after each step, what is found at an arrival or the rest of the walk is what the whole walk finds.
 -- Assumes nothing.
 use mathlib.Core.Path.{_≡_, ap, _∙_}
-use mathlib.Core.Bool.{false}
 use Prim.Native.Nat.{ℕ, _-_, _≤_, _<_}
 use native.Mathlib.Omega.{arith}
 use mathlib.Core.List.{List}
@@ -12,13 +11,16 @@ use Rattle.track.specs.declared.Track.{Track}
 use Rattle.track.specs.declared.Under.{Under}
 use Rattle.track.specs.Track.{underOf}
 use Rattle.track.specs.Steps.{trackOf}
-use Rattle.track.proofs.Gentle.{gentle-grade, gentle-curvature}
+use Rattle.track.specs.Gentle.{GentleAverages}
+use Rattle.track.proofs.Gentle.{gentle-averages}
 use Rattle.targets.specs.Targets.{most}
 use Rattle.step.specs.Curve.{forceAt}
 use Rattle.step.specs.declared.Run.{Run}
-use Rattle.step.specs.Step.{stepsMost, squareMost, groundOf, even, stepOf}
+use Rattle.step.specs.Step.{stepsMost, groundOf, even, stepOf}
+use Rattle.step.specs.Range.{squareMost}
+use Rattle.step.proofs.Gain.{gains, under-bound, gentle-no-steeper}
 use Rattle.walk.specs.Marks.{Marked, Open, predictionWith}
-use Rattle.walk.proofs.Arrivals.{Walked, walk-begins, unmarked, answer-fast, answer-stop, answer-never, walks-on}
+use Rattle.walk.proofs.Arrivals.{Walked, walk-begins, unmarked, answer-stop, answer-never, walks-on}
 use Rattle.walk.proofs.pass.Statement.{statement}
 use Rattle.walk.proofs.pass.Tie as tie
 
@@ -35,9 +37,9 @@ carried : {r : Run} {speeds before arrivals arrivals′ : List ℕ} {next next�
 carried e f m o = rw (e, f) (m, o)
 
 -- where both arms of the marking meet
-module _ (c : tie.Joined2 Inv-loop μ-loop) where
+module _ (c : tie.Joined1 Inv-loop μ-loop) where
   abbrev here : tie.At-loop Inv-loop μ-loop
-  here = c .before .before .before .before
+  here = c .before .before
 
   abbrev entry : tie.Start Inv-loop μ-loop
   entry = here .before .before .before .before
@@ -48,29 +50,31 @@ module _ (c : tie.Joined2 Inv-loop μ-loop) where
   abbrev force : ℕ → ℕ
   force = forceAt (entry .args .c .rated) (entry .args .curve)
 
-  marks : Marked (here .loop .run) (entry .args .speeds) (here .loop .arrivals) (c .if2 .arrivals) × Open (entry .args .speeds) (c .if2 .arrivals) (c .if2 .next)
+  marks : Marked (here .loop .run) (entry .args .speeds) (here .loop .arrivals) (c .if1 .arrivals) × Open (entry .args .speeds) (c .if1 .arrivals) (c .if1 .next)
   marks =
       let i = here .loop .inv in
       ⊎-elim (λ w. carried (w .3) (w .4) (w .1 .ensures) (w .2 .ensures))
       (λ w. carried (w .1) (w .2) (unmarked _ _ _ _ (i .0 .size) (i .1) (w .0 .left)) (i .1))
-      (c .if2 .came)
+      (c .if1 .came)
 
   slow : here .loop .run .q ≤ squareMost
-  slow = c .before .before .if1 .left
+  slow =
+      let i = here .loop .inv .0 in
+      under-bound (entry .args .speed) (here .loop .n) (here .loop .run .q) (entry .pre .speed) (i .steps) (i .square-most)
 
 eight : (c : tie.Start Inv-loop μ-loop) → length (c .args .speeds) ≡ most
 eight c = omega arith
 
 -- past the tests: the run has a step to make
-module _ (c : tie.Else4 Inv-loop μ-loop) where
-  abbrev joined : tie.Joined2 Inv-loop μ-loop
+module _ (c : tie.Else3 Inv-loop μ-loop) where
+  abbrev joined : tie.Joined1 Inv-loop μ-loop
   joined = c .before .before .before
 
   steps-left : here joined .loop .n < stepsMost
-  steps-left = omega (arith, here joined .loop .inv .0 .steps, c .if4 .left)
+  steps-left = omega (arith, here joined .loop .inv .0 .steps, c .if3 .left)
 
   moves : 0 < here joined .loop .run .q
-  moves = omega (arith, c .before .if3 .left)
+  moves = omega (arith, c .before .if2 .left)
 
 -- the step over the ground under the train is the step over the track
 over-track : (c : Consist) (force : ℕ → ℕ) (t : Track) (length : ℕ) (r r′ : Run) (u : Under)
@@ -92,53 +96,47 @@ loop-holds c =
     let a = c .before .before .before .args in
     (rw (c .before .started .ensures) (walk-begins (a .c) _ _ (a .head) (a .speed) (a .speeds)), c .next-mark .ensures)
 
-predicted-requires : tie.Need-predicted-requires Inv-loop μ-loop
-predicted-requires c κs = tt
-
-returns : tie.Need-returns Inv-loop μ-loop
-returns c =
-    let l = c .before .before .before in
-    c .predicted .ensures ∙ answer-fast (eight (l .before .before .before .before)) (l .loop .inv .0) (c .before .if1 .taken)
-
 marked-requires : tie.Need-marked-requires Inv-loop μ-loop
 marked-requires c κs = tt
 
 next-mark-requires-2 : tie.Need-next-mark-requires-2 Inv-loop μ-loop
 next-mark-requires-2 c κs = tt
 
+predicted-requires : tie.Need-predicted-requires Inv-loop μ-loop
+predicted-requires c κs = tt
+
+returns : tie.Need-returns Inv-loop μ-loop
+returns c =
+    let j = c .before .before .before in
+    let e : c .predicted .result ≡ predictionWith (here j .loop .run .head) (j .if1 .arrivals) = c .predicted .ensures in
+    e ∙ answer-stop (eight (entry j)) (here j .loop .inv .0) (marks j .0) (entry j .pre .head) (c .before .if2 .taken)
+
 predicted-requires-2 : tie.Need-predicted-requires-2 Inv-loop μ-loop
 predicted-requires-2 c κs = tt
 
 returns-2 : tie.Need-returns-2 Inv-loop μ-loop
 returns-2 c =
-    let j = c .before .before .before in
-    let e : c .predicted2 .result ≡ predictionWith false (here j .loop .run .head) (j .if2 .arrivals) = c .predicted2 .ensures in
-    e ∙ answer-stop (eight (entry j)) (here j .loop .inv .0) (marks j .0) (slow j) (entry j .pre .head) (c .before .if3 .taken)
-
-predicted-requires-3 : tie.Need-predicted-requires-3 Inv-loop μ-loop
-predicted-requires-3 c κs = tt
-
-returns-3 : tie.Need-returns-3 Inv-loop μ-loop
-returns-3 c =
     let b = c .before .before in
     let j = b .before .before in
-    c .predicted3 .ensures
-    ∙ answer-never (eight (entry j)) (here j .loop .inv .0) (marks j .0) (slow j) (entry j .pre .head) (omega (arith, b .if3 .left)) (c .before .if4 .taken)
+    c .predicted2 .ensures
+    ∙ answer-never (eight (entry j)) (here j .loop .inv .0) (marks j .0) (entry j .pre .head) (omega (arith, b .if2 .left)) (c .before .if3 .taken)
 
 under-train-requires : tie.Need-under-train-requires Inv-loop μ-loop
 under-train-requires c κs = tt
 
 stepped-requires : tie.Need-stepped-requires Inv-loop μ-loop
+unfolding GentleAverages
 stepped-requires c κs =
     let j = joined (c .before) in
     let s = entry j in
     let r = here j .loop .run in
     let w = here j .loop .inv .0 in
+    let averaged = gentle-averages (track j) (r .head) (s .args .c .length) (s .pre .track) in
     record {
       rated = s .pre .rated;
       applied = record { curve = s .pre .curve; clock = omega (arith, w .clock-most, w .steps) };
-      grade = rw (c .under-train .ensures) (gentle-grade (track j) (s .pre .track) _ (s .args .c .length));
-      curvature = rw (c .under-train .ensures) (gentle-curvature (track j) (s .pre .track) _ (s .args .c .length));
+      grade = rw (c .under-train .ensures) (omega (arith, averaged .grade));
+      curvature = rw (c .under-train .ensures) (omega (arith, averaged .curvature));
       head = omega (arith, w .head-is, w .steps, s .pre .head);
       some = moves (c .before);
       slow = slow j;
@@ -158,7 +156,8 @@ loop-again c =
     let r = here j .loop .run in
     let under : c .before .under-train .result ≡ underOf (track j) (r .head) (s .args .c .length) = c .before .under-train .ensures in (
       rw (over-track (s .args .c) (force j) (track j) (s .args .c .length) r _ _ (c .stepped .ensures) under)
-          (walks-on (eight s) (here j .loop .inv .0) (marks j .0) (slow j) (s .pre .head) (moves e) (steps-left e)),
+          (walks-on (eight s) (here j .loop .inv .0) (marks j .0) (s .pre .head) (moves e) (steps-left e)
+          (gains (s .args .c) (force j) (groundOf (track j) (s .args .c .length)) (s .pre .limited) (gentle-no-steeper (track j) _ (s .pre .track)) r)),
       marks j .1,
     )
 
@@ -172,14 +171,12 @@ pass-spec =
     started-requires
     next-mark-requires
     loop-holds
-    predicted-requires
-    returns
     marked-requires
     next-mark-requires-2
+    predicted-requires
+    returns
     predicted-requires-2
     returns-2
-    predicted-requires-3
-    returns-3
     under-train-requires
     stepped-requires
     add-n

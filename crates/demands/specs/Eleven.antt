@@ -1,0 +1,52 @@
+-- Document 02's R-10, "A refusal in no log": document 01's table with its line 11, "the walk's squared speed exceeds 1,000,000,000", gives no other
+-- answer than the table without it: "all other answers stand". A statement; proofs/Eleven.antt proves it.
+use mathlib.Core.Path.{_≡_}
+use mathlib.Core.Bool.{Bool, true, false, cond}
+use mathlib.Core.List.{List, [], _∷_, _++_, map}
+use Prim.Native.Nat.{ℕ}
+use Rattle.refusal.specs.declared.Verdict.the-variants.{Accepted}
+use Rattle.refusal.specs.Number.{numberOf, numberOfVerdict}
+use Rattle.refusal.specs.Lowest.{Rule}
+use Rattle.refusal.specs.Written.{noRoom}
+use Rattle.sample.specs.Sample.{rawIn, layoutRules}
+use Rattle.decision.specs.Decision.{size}
+use Rattle.laws.specs.Tested.{Tested, refused, answered, testedFor}
+use Rattle.judge.specs.Approach.{Approach, force, ground, arrivalOf}
+use Rattle.admission.specs.Table.{wrongTime, linesBefore}
+use Rattle.session.specs.declared.Session.{Session}
+use Rattle.sampling.specs.Sample.{sampleIn, approach, openFirst, sampleCall}
+
+-- a line of the table: whether its condition holds, and its number
+abbrev pub Line : Type 0
+Line = Bool × ℕ
+
+abbrev pub numbered : Rule → Line
+numbered rule = (rule .0, numberOf (rule .1))
+
+-- "Where several apply, the lowest number is returned.": of lines in the order of their numbers the first, and 0 where none applies
+unfoldable pub firstLine : List Line → ℕ
+firstLine [] = 0
+firstLine (line ∷ lines) = cond (line .0) (line .1) (firstLine lines)
+
+-- document 01's walk of an approach
+abbrev pub tested : Approach → ℕ → Tested
+tested x u = testedFor (x .consist) (force x) (ground x) (x .head) (x .speed) u
+
+abbrev pub isRefused : Tested → Bool
+isRefused refused = true
+isRefused (answered a) = false
+
+-- document 01's table for a sample call: 1; 2 on, before the walk; 11, by the walk to the stop; 12
+abbrev pub tableWithEleven : Session → (s p t out : List ℕ) → List Line
+tableWithEleven x s p t out =
+    map numbered (openFirst x (layoutRules s ++ linesBefore (x .consist) (wrongTime (x .brake) (sampleIn s)) (rawIn s) p t))
+    ++ (isRefused (tested (approach x (sampleIn s) p) 0), 11)
+    ∷ (noRoom size out, 12)
+    ∷ []
+
+pub record Eleven (x : Session) (s p t out : List ℕ) : Type 0 where
+  -- its number is the call's
+  pub answers : firstLine (tableWithEleven x s p t out) ≡ numberOfVerdict (sampleCall x s p t out .0 .verdict)
+  -- and for the stop and every target speed document 01's walk finds what a prediction of an accepted sample does
+  pub arrivals : sampleCall x s p t out .0 .verdict ≡ Accepted → (u : ℕ) →
+      tested (approach x (sampleIn s) p) u ≡ answered (arrivalOf (approach x (sampleIn s) p) u)
