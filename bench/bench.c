@@ -6,9 +6,9 @@
  *     bench FEED library TIMES     runs the feed so often with one of them, for an
  *     bench FEED plain TIMES     instruction counter
  *
- * `time` prints a line: samples, refused ones, walks without a stop, then the
- * medians over the rounds of ns a sample for the archive and for plain C and of
- * the ratio of the two.
+ * `time` prints a line: samples, refused ones, samples without a stop by penalty
+ * and by emergency air, then the medians over the rounds of ns a sample for the
+ * archive and for plain C and of the ratio of the two.
  */
 #define _POSIX_C_SOURCE 200809L
 #include "../second/second.h"
@@ -30,9 +30,10 @@ typedef struct {
     uint8_t bytes[BUONGILACH_SAMPLE_BYTES];
 } sample;
 
+/* A sample's two decisions. */
 typedef struct {
-    uint8_t bytes[BUONGILACH_DECISION_BYTES];
-} decision;
+    uint8_t bytes[BUONGILACH_BOTH_DECISIONS_BYTES];
+} pair;
 
 /* A feed's parts, which lie in its bytes. */
 typedef struct {
@@ -78,7 +79,7 @@ static parts read_feed(const char *name)
 }
 
 /* The archive, on the whole feed. */
-static void run_library(const parts *feed, int *answers, decision *decisions)
+static void run_library(const parts *feed, int *answers, pair *decisions)
 {
     uint8_t session[BUONGILACH_SESSION_BYTES] = { 0 };
     if (buongilach_open(session, sizeof session, feed->consist, BUONGILACH_CONSIST_BYTES) != 0)
@@ -86,10 +87,10 @@ static void run_library(const parts *feed, int *answers, decision *decisions)
     for (size_t i = 0; i < feed->count; i++)
         answers[i] = buongilach_sample(session, sizeof session, feed->samples[i].bytes, sizeof(sample),
                                        feed->profile, feed->profile_bytes, feed->targets,
-                                       feed->target_bytes, decisions[i].bytes, sizeof(decision));
+                                       feed->target_bytes, decisions[i].bytes, sizeof(pair));
 }
 
-static void run_plain(const parts *feed, int *answers, decision *decisions)
+static void run_plain(const parts *feed, int *answers, pair *decisions)
 {
     plain_session session = { 0 };
     if (plain_open(&session, feed->consist, BUONGILACH_CONSIST_BYTES) != 0)
@@ -97,10 +98,10 @@ static void run_plain(const parts *feed, int *answers, decision *decisions)
     for (size_t i = 0; i < feed->count; i++)
         answers[i] = plain_sample(&session, feed->samples[i].bytes, sizeof(sample), feed->profile,
                                   feed->profile_bytes, feed->targets, feed->target_bytes,
-                                  decisions[i].bytes, sizeof(decision));
+                                  decisions[i].bytes, sizeof(pair));
 }
 
-static void run_second(const parts *feed, int *answers, decision *decisions)
+static void run_second(const parts *feed, int *answers, pair *decisions)
 {
     second_session session = { 0 };
     if (second_open(&session, feed->consist, BUONGILACH_CONSIST_BYTES) != 0)
@@ -108,20 +109,20 @@ static void run_second(const parts *feed, int *answers, decision *decisions)
     for (size_t i = 0; i < feed->count; i++)
         answers[i] = second_judge(&session, feed->samples[i].bytes, sizeof(sample), feed->profile,
                                   feed->profile_bytes, feed->targets, feed->target_bytes,
-                                  decisions[i].bytes, sizeof(decision));
+                                  decisions[i].bytes, sizeof(pair));
 }
 
-typedef void side(const parts *feed, int *answers, decision *decisions);
+typedef void side(const parts *feed, int *answers, pair *decisions);
 
 /* A side's answers and decisions. */
 typedef struct {
     int *answers;
-    decision *decisions;
+    pair *decisions;
 } record;
 
 static record room(const parts *feed)
 {
-    record made = { calloc(feed->count, sizeof(int)), calloc(feed->count, sizeof(decision)) };
+    record made = { calloc(feed->count, sizeof(int)), calloc(feed->count, sizeof(pair)) };
     if (made.answers == NULL || made.decisions == NULL)
         die("out of memory");
     return made;
@@ -130,11 +131,11 @@ static record room(const parts *feed)
 static void must_be_alike(const parts *feed, record x, record y)
 {
     if (memcmp(x.answers, y.answers, feed->count * sizeof(int)) != 0
-        || memcmp(x.decisions, y.decisions, feed->count * sizeof(decision)) != 0)
+        || memcmp(x.decisions, y.decisions, feed->count * sizeof(pair)) != 0)
         die("the three do not answer alike");
 }
 
-/* All three alike, byte for byte; a refused sample's decision is left zero by all. */
+/* All three alike, byte for byte; a refused sample's decisions are left zero by all. */
 static tally check(const parts *feed)
 {
     record library = room(feed), plain = room(feed), second = room(feed);
@@ -147,8 +148,10 @@ static tally check(const parts *feed)
     tally seen = { 0, 0 };
     for (size_t i = 0; i < feed->count; i++) {
         seen.refused += library.answers[i] != 0;
+        const uint8_t *both = library.decisions[i].bytes;
         seen.without_stop += library.answers[i] == 0
-            && second_bits(library.decisions[i].bytes, 40, 24) == BUONGILACH_NO_STOP;
+            && second_bits(both, 40, 24) == BUONGILACH_NO_STOP
+            && second_bits(both + BUONGILACH_DECISION_BYTES, 40, 24) == BUONGILACH_NO_STOP;
     }
     return seen;
 }

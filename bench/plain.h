@@ -1,5 +1,5 @@
 /*
- * plain.h - the rules of document 01 in plain C, for the bench to compare with.
+ * plain.h - the rules of documents 01 and 02 in plain C, for the bench to compare with.
  *
  * The calls are those of the archive; the session is a struct, as a C program
  * would hold it.
@@ -25,7 +25,7 @@ typedef struct {
     bool open, begun;
     plain_consist train;
     plain_brakes brakes;
-    int cause;
+    int cause, emergency;
 } plain_session;
 
 /* 0, or a refusal's number with everything as it was. */

@@ -1,6 +1,6 @@
 /*
  * case.c - the smallest use of the C library: document 01's case, a train of 10 cars that creeps toward a board at 5,531 ft. The
- * penalty is called at its second sample.
+ * penalty is called at its second sample; by emergency air the train would stop before the board, and emergency is not called.
  */
 #include "buongilach.h"
 
@@ -13,6 +13,18 @@ static uint32_t bits_of(float reading)
     uint32_t bits;
     memcpy(&bits, &reading, sizeof bits);
     return bits;
+}
+
+/* Prints one of a sample's two decisions: time, brake state, bit, cause and stopping location. */
+static void print_decision(const uint8_t *decision)
+{
+    uint32_t n[BUONGILACH_DECISION_NUMBERS];
+    uint8_t refusal = buongilach_read_decision(decision, BUONGILACH_DECISION_BYTES, n, BUONGILACH_DECISION_NUMBERS);
+    if (refusal != BUONGILACH_ACCEPTED)
+        printf("x %u\n", (unsigned)refusal);
+    else
+        printf("%u %u %u %u %u\n", (unsigned)n[BUONGILACH_TIME], (unsigned)n[BUONGILACH_STATE],
+               (unsigned)n[BUONGILACH_PENALTY], (unsigned)n[BUONGILACH_CAUSE], (unsigned)n[BUONGILACH_STOP]);
 }
 
 int main(void)
@@ -43,20 +55,18 @@ int main(void)
     const float mph[3] = {0.0f, 1.0f, 0.0f};
     for (uint32_t time = 0; time < 3; time++) {
         uint8_t sample[BUONGILACH_SAMPLE_BYTES];
-        uint8_t decision[BUONGILACH_DECISION_BYTES];
-        uint32_t n[BUONGILACH_DECISION_NUMBERS];
+        uint8_t decisions[BUONGILACH_BOTH_DECISIONS_BYTES];
         if (buongilach_write_sample(time, heads[time], bits_of(mph[time]), bits_of(90.0f), true, bits_of(90.0f), sample,
                                     sizeof sample))
             return 1;
         uint8_t refusal = buongilach_sample(session, sizeof session, sample, sizeof sample, profile, sizeof profile, targets,
-                                            sizeof targets, decision, sizeof decision);
-        if (refusal == BUONGILACH_ACCEPTED)
-            refusal = buongilach_read_decision(decision, sizeof decision, n, BUONGILACH_DECISION_NUMBERS);
-        if (refusal != BUONGILACH_ACCEPTED)
+                                            sizeof targets, decisions, sizeof decisions);
+        if (refusal != BUONGILACH_ACCEPTED) {
             printf("x %u\n", (unsigned)refusal);
-        else
-            printf("%u %u %u %u %u\n", (unsigned)n[BUONGILACH_TIME], (unsigned)n[BUONGILACH_STATE],
-                   (unsigned)n[BUONGILACH_PENALTY], (unsigned)n[BUONGILACH_CAUSE], (unsigned)n[BUONGILACH_STOP]);
+            continue;
+        }
+        print_decision(decisions);                             /* the penalty's */
+        print_decision(decisions + BUONGILACH_DECISION_BYTES); /* emergency's */
     }
     return 0;
 }

@@ -1,6 +1,6 @@
 /*
  * mounted.c - document 01's session program over the C library, as a customer would write it: a recorded feed on standard input,
- * a line for each sample on standard output.
+ * on standard output two lines for each accepted sample, the penalty's and emergency's, and one for each refused.
  *
  *     gcc -std=c11 -Iinclude -o mounted examples/mounted.c lib/libbuongilach.a
  */
@@ -87,13 +87,15 @@ static unsigned take_head_of_feed(void)
 
 static void judge(const uint8_t *sample, size_t sample_bytes)
 {
-    uint8_t decision[BUONGILACH_DECISION_BYTES];
+    uint8_t decisions[BUONGILACH_BOTH_DECISIONS_BYTES];
     unsigned refusal = buongilach_sample(session, sizeof session, sample, sample_bytes, profile, profile_bytes, targets,
-                                         targets_bytes, decision, sizeof decision);
-    if (refusal == BUONGILACH_ACCEPTED)
-        print_decision(decision);
-    else
+                                         targets_bytes, decisions, sizeof decisions);
+    if (refusal == BUONGILACH_ACCEPTED) {
+        print_decision(decisions);
+        print_decision(decisions + BUONGILACH_DECISION_BYTES);
+    } else {
         print_refusal(refusal);
+    }
 }
 
 int main(void)

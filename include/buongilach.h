@@ -2,8 +2,9 @@
  * buongilach.h - the brake predictor, for C11 and C++. Link libbuongilach.a (x86-64 Linux; docs/MOUNTING.md says how, and
  * docs/RECORDS.md draws the records bit by bit).
  *
- * A session is opened with a consist and then given a sample at a time; each accepted sample is answered by a decision, which
- * says whether the penalty brake must go on. "01" is the document that gives the rules.
+ * A session is opened with a consist and then given a sample at a time; each accepted sample is answered by two decisions: the
+ * first says whether the penalty brake must go on, the second whether the emergency brake must go on behind it. "01" is the
+ * document that gives the rules, as "02" changes it.
  *
  * Units: speed in hundredths of a mph, pressure in hundredths of a psi, location and length in feet, grade in hundredths of a
  * percent (negative downhill), curvature in hundredths of a degree, weight in tons of 2,000 lb. Only a sample carries its
@@ -38,7 +39,7 @@ extern "C" {
 #endif
 
 /* The version of this header, major * 1,000,000 + minor * 1,000 + patch. */
-#define BUONGILACH_VERSION_MAJOR 3
+#define BUONGILACH_VERSION_MAJOR 4
 #define BUONGILACH_VERSION_MINOR 0
 #define BUONGILACH_VERSION_PATCH 0
 #define BUONGILACH_VERSION (BUONGILACH_VERSION_MAJOR * 1000000 + BUONGILACH_VERSION_MINOR * 1000 + BUONGILACH_VERSION_PATCH)
@@ -47,10 +48,11 @@ extern "C" {
 uint32_t buongilach_version(void);
 
 enum {
-    BUONGILACH_SESSION_BYTES = 40,
+    BUONGILACH_SESSION_BYTES = 41,
     BUONGILACH_CONSIST_BYTES = 16,
     BUONGILACH_SAMPLE_BYTES = 20,
     BUONGILACH_DECISION_BYTES = 8,
+    BUONGILACH_BOTH_DECISIONS_BYTES = 16, /* what a sample call writes: two decisions, one after the other */
     BUONGILACH_DECISION_NUMBERS = 5,
     BUONGILACH_PROFILE_RECORD_BYTES = 6,
     BUONGILACH_PROFILE_RECORDS_LEAST = 2,
@@ -66,7 +68,7 @@ enum {
 /* What a call answers. docs/MOUNTING.md says what each asks of the caller. */
 enum buongilach_refusal {
     BUONGILACH_ACCEPTED = 0,
-    BUONGILACH_NO_SESSION = 1,     /* a sample, and no open session's record, 40 bytes, stands at the front of its buffer */
+    BUONGILACH_NO_SESSION = 1,     /* a sample, and no open session's record, 41 bytes, stands at the front of its buffer */
     BUONGILACH_WRONG_LENGTH = 2,   /* a consist is not 16 bytes, a sample not 20, a decision that is read not 8 */
     BUONGILACH_WRONG_MARK = 3,     /* a wrong mark; a sample's spare bit set, or its rear lost with rear bits not zero */
     BUONGILACH_OUT_OF_RANGE = 4,   /* a field of a consist or a decision; a sample's time or head over 24 bits (writer) */
@@ -77,7 +79,7 @@ enum buongilach_refusal {
     BUONGILACH_WRONG_TIME = 9,     /* not 1 to 5 seconds after the last accepted sample */
     BUONGILACH_NOT_COVERED = 10,   /* head less than the train's length, or a profile too short before or behind it */
     /* 11 is retired: it is proved that no input gives it, and the number is not used again */
-    BUONGILACH_NO_ROOM = 12        /* fewer bytes (or numbers) to write to than what is written */
+    BUONGILACH_NO_ROOM = 12        /* fewer bytes (or numbers) to write to than what is written: 16 bytes by a sample call */
 };
 
 /* A decision's brake state. */
@@ -90,34 +92,42 @@ enum buongilach_state {
     BUONGILACH_CHARGING = 5
 };
 
-/* The places of a decision's numbers, as buongilach_read_decision gives them. */
+/*
+ * The places of a decision's numbers, as buongilach_read_decision gives them; the two decisions of a sample have the same time and
+ * state. Before the penalty is called, bit, cause and location of the second are 0.
+ */
 enum buongilach_number {
-    BUONGILACH_TIME = 0,    /* the sample's time, in seconds */
-    BUONGILACH_STATE = 1,   /* enum buongilach_state */
-    BUONGILACH_PENALTY = 2, /* 1: the penalty brake must go on; it stays 1 until the next opening */
-    BUONGILACH_CAUSE = 3,   /* 1 to 8: the target's place in the list when the penalty was called; 0 without a penalty */
-    BUONGILACH_STOP = 4     /* where the head would stop, or BUONGILACH_NO_STOP */
+    BUONGILACH_TIME = 0,      /* the sample's time, in seconds */
+    BUONGILACH_STATE = 1,     /* enum buongilach_state */
+    BUONGILACH_PENALTY = 2,   /* of the first decision. 1: the penalty brake must go on; it stays 1 until the next opening */
+    BUONGILACH_EMERGENCY = 2, /* of the second. 1: the emergency brake must go on; it stays 1 until the next opening */
+    BUONGILACH_CAUSE = 3,     /* 1 to 8: the target's place in the list when that brake was called; 0 where it was not */
+    BUONGILACH_STOP = 4       /* where the head would stop, by penalty or by emergency air, or BUONGILACH_NO_STOP */
 };
 
 /* ---- the session */
 
 /*
- * A session is a record of 40 bytes at the front of a buffer of 40 or more. No call reads or writes a byte past it. Its last four
+ * A session is a record of 41 bytes at the front of a buffer of 41 or more. No call reads or writes a byte past it. Its last four
  * bytes check the others: a record in which one byte or two were changed, wherever, is no open session's; where more were
  * changed, only chance makes it one.
  */
 
 /*
  * Opens a session: writes its record, whatever stood there.
- * Refuses 2, 4, 5 (the consist), 12 (`session` under 40 bytes). Refused, an earlier session stays as it was.
+ * Refuses 2, 4, 5 (the consist), 12 (`session` under 41 bytes). Refused, an earlier session stays as it was.
  */
 uint8_t buongilach_open(uint8_t *session, size_t session_bytes, const uint8_t *consist, size_t consist_bytes);
 
 /*
  * Judges a sample. `session` begins with the record that an opening or the last accepted sample left. Profile and targets are
- * judged at each call, and the targets may change from call to call. Accepted: the record is the next session's, and the first 8
- * bytes of `decision` are the decision.
- * Refuses 1 (no open session's record, or `session` under 40 bytes), 2, 3, 6, 7, 8, 9, 10, 12 (`decision` under 8 bytes).
+ * judged at each call, and the targets may change from call to call. Accepted: the record is the next session's, and the first 16
+ * bytes of `decision` are two decisions, each to be read by buongilach_read_decision: bytes 0 to 7 are the penalty's, 8 to 15
+ * emergency's.
+ * Emergency is predicted from the sample that calls the penalty on. It is called where the stop by emergency air is at or past a
+ * target of speed 0 that lies from the head to 32,768 ft ahead, and once called it stands until a session is opened anew, whatever
+ * targets are lent afterwards. There is no emergency without a penalty.
+ * Refuses 1 (no open session's record, or `session` under 41 bytes), 2, 3, 6, 7, 8, 9, 10, 12 (`decision` under 16 bytes).
  */
 uint8_t buongilach_sample(uint8_t *session, size_t session_bytes, const uint8_t *sample, size_t sample_bytes,
                           const uint8_t *profile, size_t profile_bytes, const uint8_t *targets, size_t targets_bytes,
@@ -178,7 +188,9 @@ uint8_t buongilach_write_sample(uint32_t time, uint32_t head, uint32_t speed, ui
 uint8_t buongilach_judge_sample(const uint8_t *sample, size_t sample_bytes);
 
 /*
- * Reads a decision into the first five of `numbers`, in the order of enum buongilach_number. `numbers_count` counts elements.
+ * Reads one decision, the penalty's or emergency's, into the first five of `numbers`, in the order of enum buongilach_number. A
+ * sample's two decisions are read by two calls, the first with `decision`, the second with `decision + 8`, each with 8 bytes: the
+ * numbers do not say which of the two was read. `numbers_count` counts elements.
  * Refuses 2, 3, 4, 12 (room for fewer than five).
  */
 uint8_t buongilach_read_decision(const uint8_t *decision, size_t decision_bytes, uint32_t *numbers, size_t numbers_count);

@@ -81,15 +81,26 @@ int64_t second_service_equalization(int64_t a, int64_t b)
     return (int64_t)second_down(5 * a + 2 * b, 7);
 }
 
+/* "Equalization = (5A + 2B + 7 nominal) / 14", down, in an emergency. */
+int64_t second_emergency_equalization(int64_t a, int64_t b, int64_t nominal)
+{
+    return (int64_t)second_down(5 * a + 2 * b + 7 * nominal, 14);
+}
+
+/* "Then A = (5A + 7 nominal) / 12", down. */
+int64_t second_combined(int64_t a, int64_t nominal)
+{
+    return (int64_t)second_down(5 * a + 7 * nominal, 12);
+}
+
 /* "Start applying."  A itself first falls at the next sample; hold is left
  * (decision 16). */
 void second_start_applying(second_brakes *brakes, const second_consist *train,
                            int64_t rate, int64_t nominal)
 {
     if (second_emergency(rate)) {
-        brakes->equalization =
-            (int64_t)second_down(5 * brakes->a + 2 * brakes->b + 7 * nominal, 14);
-        brakes->a = (int64_t)second_down(5 * brakes->a + 7 * nominal, 12);
+        brakes->equalization = second_emergency_equalization(brakes->a, brakes->b, nominal);
+        brakes->a = second_combined(brakes->a, nominal);
         brakes->state = SECOND_APPLYING_EMERGENCY;
         brakes->fall =
             second_greatest((int64_t)second_up(brakes->a - brakes->equalization, 10), 0);

@@ -24,7 +24,6 @@ void second_print_decision(const unsigned char *decision)
            (long)second_bits(decision, 8, 24), (long)second_bits(decision, 32, 3),
            (long)second_bits(decision, 35, 1), (long)second_bits(decision, 36, 4),
            (long)second_bits(decision, 40, 24));
-    fflush(stdout);
 }
 
 /* A whole number of so many bytes, high byte first; `missing` where the input ends before. */
@@ -74,21 +73,25 @@ int second_take_targets(void)
 }
 
 /* "Each sample prints one line ... or `x` and the number.  A short last
- * sample prints `x 2`." */
+ * sample prints `x 2`."  The program prints the second record "as a second line
+ * alike" (02, R-5). */
 void second_run_samples(second_session *session)
 {
     unsigned char sample[SECOND_SAMPLE_BYTES];
-    unsigned char decision[SECOND_DECISION_BYTES];
+    unsigned char decisions[SECOND_BOTH_BYTES];
     size_t count;
     while ((count = fread(sample, 1, sizeof sample, stdin)) > 0) {
         int refusal = second_judge(session, sample, count,
                                    second_given.profile, second_given.profile_count,
                                    second_given.targets, second_given.target_count,
-                                   decision, sizeof decision);
-        if (refusal == 0)
-            second_print_decision(decision);
-        else
+                                   decisions, sizeof decisions);
+        if (refusal == 0) {
+            second_print_decision(decisions);
+            second_print_decision(decisions + SECOND_DECISION_BYTES);
+            fflush(stdout);
+        } else {
             second_print_refusal(refusal);
+        }
         if (count < sizeof sample || ferror(stdout))
             break;
     }

@@ -5,7 +5,8 @@
 enum {
     SECOND_LAST_FOOT = 4000000,      /* the highest start and target location */
     SECOND_SAMPLE_MARK = 0x53,
-    SECOND_DECISION_MARK = 0x44
+    SECOND_DECISION_MARK = 0x44,
+    SECOND_EMERGENCY_MARK = 0x45
 };
 
 /* "Consist, 16 bytes": 2, 4 or 5 when it is refused. */
@@ -122,14 +123,39 @@ void second_read_sample(const unsigned char *bytes, second_sample *sample)
     sample->rear = sample->rear_present ? second_hundredths_down(second_bits(bytes, 128, 32)) : 0;
 }
 
-/* "Decision, 8 bytes." */
-void second_write_decision(unsigned char *output, int64_t time, int64_t state, int64_t cause,
-                           int64_t stop)
+/* "Decision, 8 bytes": 2, 3 or 4 when it is refused.  "3 takes 0x45 as right in
+ * a decision" (02, R-5). */
+int second_read_decision(const unsigned char *bytes, size_t count, second_decision *decision)
 {
-    second_put_bits(output, 0, 8, SECOND_DECISION_MARK);
-    second_put_bits(output, 8, 24, time);
-    second_put_bits(output, 32, 3, state);
-    second_put_bits(output, 35, 1, cause != 0);
-    second_put_bits(output, 36, 4, cause);
-    second_put_bits(output, 40, 24, stop);
+    if (count != SECOND_DECISION_BYTES)
+        return 2;
+    int64_t mark = second_bits(bytes, 0, 8);
+    if (mark != SECOND_DECISION_MARK && mark != SECOND_EMERGENCY_MARK)
+        return 3;
+    decision->emergency = mark == SECOND_EMERGENCY_MARK;
+    decision->time = second_bits(bytes, 8, 24);
+    decision->state = second_bits(bytes, 32, 3);
+    decision->penalty = second_bits(bytes, 35, 1);
+    decision->cause = second_bits(bytes, 36, 4);
+    decision->stop = second_bits(bytes, 40, 24);
+    if (decision->state > 5 || decision->cause > SECOND_TARGETS_MOST)
+        return 4;
+    /* "The penalty bit is 1 exactly when the cause is not 0." */
+    if (decision->penalty != (decision->cause != 0))
+        return 4;
+    if (decision->stop > SECOND_LAST_FOOT && decision->stop != SECOND_NO_STOP)
+        return 4;
+    return 0;
+}
+
+/* "Decision, 8 bytes." */
+void second_write_decision(unsigned char *output, const second_decision *decision)
+{
+    second_put_bits(output, 0, 8,
+                    decision->emergency ? SECOND_EMERGENCY_MARK : SECOND_DECISION_MARK);
+    second_put_bits(output, 8, 24, decision->time);
+    second_put_bits(output, 32, 3, decision->state);
+    second_put_bits(output, 35, 1, decision->penalty);
+    second_put_bits(output, 36, 4, decision->cause);
+    second_put_bits(output, 40, 24, decision->stop);
 }

@@ -11,10 +11,11 @@
  * With -DSECOND_CHECKED, as the build with sanitizers has it, the program ends
  * where what second_holds() says does not hold.
  *
- * It takes the direct way everywhere: fields bit by bit, one walk for the stop
- * and one more for each target, the whole profile looked through at every
- * step.  Each function is headed by the phrase of 01 that it does; "decision 8"
- * is a point of docs/DECISIONS.md.  There is no floating point.
+ * It takes the direct way everywhere: fields bit by bit, one walk for the stop,
+ * one more for each target and one for emergency, the whole profile looked through at every
+ * step.  Each function is headed by the phrase of 01, or of a request of 02, that
+ * it does; "decision 8" is a point of docs/DECISIONS.md.  There is no floating
+ * point.
  *
  * Its parts stand in files of their own, in the order of 01, and each uses those
  * before it; this one file has them all.
@@ -36,6 +37,7 @@
 #include "records.c"
 #include "brakes.c"
 #include "walk.c"
+#include "emergency.c"
 #include "session.c"
 #ifndef SECOND_NO_MAIN
 #include "program.c"

@@ -17,6 +17,7 @@ enum {
     SECOND_TARGET_BYTES = 5,    /* a record */
     SECOND_SAMPLE_BYTES = 20,
     SECOND_DECISION_BYTES = 8,
+    SECOND_BOTH_BYTES = 16,     /* a sample's two decisions */
     SECOND_PROFILE_LEAST = 2,   /* records */
     SECOND_PROFILE_MOST = 257,
     SECOND_TARGETS_MOST = 8,
@@ -39,7 +40,8 @@ typedef struct {
     int begun;             /* a sample has been accepted */
     second_consist train;
     second_brakes brakes;
-    int64_t cause;         /* 0, or the place of the target that called */
+    int64_t cause;         /* 0, or the place of the target that called the penalty */
+    int64_t emergency;     /* 0, or the place of the target that called emergency */
 } second_session;
 
 /* The profile and the targets, read into numbers. */
@@ -59,7 +61,20 @@ typedef struct {
     int rear_present;
 } second_sample;
 
-/* What the walks of one sample say. */
+/* A decision: the penalty's, or emergency's. */
+typedef struct {
+    int emergency;         /* which of the two, told by the mark */
+    int64_t time, state, penalty, cause, stop;
+} second_decision;
+
+/* The air that a walk brakes with. */
+typedef struct {
+    int emergency;         /* by which curve */
+    int64_t a, b;
+    int64_t equalization;  /* the emergency curve's; the other finds its own */
+} second_air;
+
+/* What a curve's walks of one sample say. */
 typedef struct {
     int64_t stop;          /* SECOND_NO_STOP for none */
     int64_t cause;         /* the first calling target's place, 0 for none */
@@ -69,8 +84,8 @@ typedef struct {
 int second_open(second_session *session, const unsigned char *bytes, size_t count);
 
 /*
- * Judges one sample.  0 with the decision in the first 8 bytes of output, or a
- * refusal number with the session and the output as they were.
+ * Judges one sample.  0 with the two decisions in the first 16 bytes of output,
+ * or a refusal number with the session and the output as they were.
  */
 int second_judge(second_session *session,
                  const unsigned char *sample, size_t sample_count,
@@ -78,17 +93,23 @@ int second_judge(second_session *session,
                  const unsigned char *targets, size_t targets_count,
                  unsigned char *output, size_t output_count);
 
-/* The readers.  0, or 2, 4, 5; 6; 7. */
+/* The readers.  0, or 2, 4, 5; 6; 7; 2, 3, 4. */
 int second_read_consist(const unsigned char *bytes, size_t count, second_consist *train);
 int second_read_profile(const unsigned char *bytes, size_t count, second_profile *profile);
 int second_read_targets(const unsigned char *bytes, size_t count, second_targets *targets);
+int second_read_decision(const unsigned char *bytes, size_t count, second_decision *decision);
 
 /*
- * The prediction of one sample: the brakes already updated, everything already
- * judged.  It is called from one place only, second_judge.
+ * The predictions of one sample, the penalty's and emergency's: the brakes already
+ * updated, everything already judged.  Each is called from one place only,
+ * second_judge.
  */
 second_prediction second_predict(const second_session *session, const second_sample *sample,
                                  const second_profile *profile, const second_targets *targets);
+second_prediction second_predict_emergency(const second_session *session,
+                                           const second_sample *sample,
+                                           const second_profile *profile,
+                                           const second_targets *targets);
 
 /* What a sample of 20 bytes is refused for: 1, or 0 for 3 and for 8. */
 int second_sample_well_formed(const unsigned char *bytes);

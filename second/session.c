@@ -40,10 +40,32 @@ int second_covered(const second_session *session, const second_sample *sample,
         && profile->start[profile->records - 1] >= sample->head + SECOND_REACH;
 }
 
+/* "The cause is the first such target and, like the penalty, stays"; emergency
+ * "stays called" (02, R-5): the cause that stands after one more prediction. */
+int64_t second_standing(int64_t stood, int64_t called)
+{
+    return stood != 0 ? stood : called;
+}
+
+/* Both decisions' bytes: "a second decision record follows the first with mark
+ * 0x45, its penalty bit and cause now meaning emergency, its location the
+ * emergency stop" (02, R-5). */
+void second_write_both(unsigned char *output, const second_session *session,
+                       const second_sample *sample, int64_t stop, int64_t emergency_stop)
+{
+    int64_t state = session->brakes.state;
+    second_decision penalty = {0, sample->time, state, session->cause != 0, session->cause, stop};
+    second_decision emergency = {1, sample->time, state, session->emergency != 0,
+                                 session->emergency, emergency_stop};
+    second_write_decision(output, &penalty);
+    second_write_decision(output + SECOND_DECISION_BYTES, &emergency);
+}
+
 /* "Where several apply, the lowest number is returned."  "A sample call is lent
  * profile and targets and judges them each time; targets may change between
- * calls.  It writes the first 8 output bytes only."  The tests stand in the
- * order of their numbers; a refused sample changes nothing (decisions 34 and 36). */
+ * calls."  "12 now means under 16 bytes for a sample call" (02, R-5).  The tests
+ * stand in the order of their numbers; a refused sample changes nothing
+ * (decisions 34 and 36). */
 int second_judge(second_session *session,
                  const unsigned char *sample_bytes, size_t sample_count,
                  const unsigned char *profile_bytes, size_t profile_count,
@@ -75,14 +97,19 @@ int second_judge(second_session *session,
     second_session after = *session;
     second_update_brakes(&after.brakes, &after.train, &sample, !session->begun);
     after.begun = 1;
-    second_prediction prediction = second_predict(&after, &sample, &profile, &targets);
-    /* "The cause is the first such target and, like the penalty, stays." */
-    if (after.cause == 0)
-        after.cause = prediction.cause;
+    second_prediction penalty = second_predict(&after, &sample, &profile, &targets);
+    after.cause = second_standing(after.cause, penalty.cause);
+    /* "From the sample that calls the penalty on"; "before the penalty the second
+     * record has bit, cause and location zero" (02, R-5). */
+    second_prediction emergency = {0, 0};
+    if (after.cause != 0)
+        emergency = second_predict_emergency(&after, &sample, &profile, &targets);
+    after.emergency = second_standing(after.emergency, emergency.cause);
+    second_holds(after.emergency == 0 || after.cause != 0);
 
-    if (output_count < SECOND_DECISION_BYTES)
+    if (output_count < SECOND_BOTH_BYTES)
         return 12;
-    second_write_decision(output, sample.time, after.brakes.state, after.cause, prediction.stop);
+    second_write_both(output, &after, &sample, penalty.stop, emergency.stop);
     *session = after;
     return 0;
 }

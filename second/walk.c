@@ -49,6 +49,24 @@ int64_t second_cylinder(const second_consist *train, int64_t a, int64_t b, int64
     return b + 5 * drop / 2;
 }
 
+/* "Drop is (A minus equalization) x t / 10,000, down, not past equalization and
+ * not below 0; p is B plus 6 drop" (02, R-5). */
+int64_t second_emergency_cylinder(int64_t a, int64_t b, int64_t equalization, int64_t t)
+{
+    int64_t drop = (int64_t)second_down((second_wide)(a - equalization) * t, 10000);
+    drop = second_least(drop, a - equalization);
+    drop = second_greatest(drop, 0);
+    return b + 6 * drop;
+}
+
+/* p at that clock, by the curve that the air follows. */
+int64_t second_cylinder_by(const second_consist *train, const second_air *air, int64_t t)
+{
+    if (air->emergency)
+        return second_emergency_cylinder(air->a, air->b, air->equalization, t);
+    return second_cylinder(train, air->a, air->b, t);
+}
+
 /* "Brake force F = rated x p / 6,400, down." */
 int64_t second_brake_force(const second_consist *train, int64_t cylinder)
 {
@@ -89,10 +107,9 @@ int64_t second_step_time(int64_t s)
  * for a target speed is the head when q first is at or below that speed
  * squared."  One walk for one limit; the stop's limit is 0.  The answer is the
  * location, SECOND_NO_STOP without one. */
-int64_t second_walk(const second_session *session, const second_sample *sample,
-                    const second_profile *profile, int64_t limit)
+int64_t second_walk(const second_consist *train, const second_air *air,
+                    const second_sample *sample, const second_profile *profile, int64_t limit)
 {
-    const second_consist *train = &session->train;
     int64_t head = sample->head;
     int64_t start = sample->speed * sample->speed;
     int64_t q = start;
@@ -102,8 +119,7 @@ int64_t second_walk(const second_session *session, const second_sample *sample,
         int64_t s = second_root(q);
         int64_t grade, curve;
         second_averages(profile, head, train->length, &grade, &curve);
-        int64_t cylinder = second_cylinder(train, session->brakes.a, session->brakes.b, t);
-        int64_t force = second_brake_force(train, cylinder);
+        int64_t force = second_brake_force(train, second_cylinder_by(train, air, t));
         second_wide opposing = second_opposing(train, force, s, q, grade, curve);
 
         q -= second_loss(train, opposing);
@@ -115,7 +131,22 @@ int64_t second_walk(const second_session *session, const second_sample *sample,
     return q <= limit * limit ? head : SECOND_NO_STOP;
 }
 
+/* "It starts after the update, with A, B": the air as it is held, in every state
+ * (decision 27). */
+second_air second_held_air(const second_session *session)
+{
+    second_air air = {0, session->brakes.a, session->brakes.b, 0};
+    return air;
+}
+
 /* --------------------------------------------------------------- judgement */
+
+/* "A target is judged if it lies from head to head plus 32,768, both
+ * included." */
+int second_judged(const second_sample *sample, int64_t target)
+{
+    return target >= sample->head && target <= sample->head + SECOND_REACH;
+}
 
 /* "Its offset is offset x (v^2 - u^2) / v^2 rounded up, with v the train's and
  * u the target's speed; 0 where v is not above u." */
@@ -126,16 +157,16 @@ int64_t second_target_offset(int64_t offset, int64_t v, int64_t u)
     return (int64_t)second_up((second_wide)offset * (v * v - u * u), v * v);
 }
 
-/* "A target is judged if it lies from head to head plus 32,768, both included.
- * The penalty is called when location plus offset is greater than the target.
+/* "The penalty is called when location plus offset is greater than the target.
  * Without [a location] there is none, and it counts as beyond every target."
  * Whether this one calls. */
 int second_calls(const second_session *session, const second_sample *sample,
                  const second_profile *profile, int64_t target, int64_t speed)
 {
-    if (target < sample->head || target > sample->head + SECOND_REACH)
+    if (!second_judged(sample, target))
         return 0;
-    int64_t location = second_walk(session, sample, profile, speed);
+    second_air air = second_held_air(session);
+    int64_t location = second_walk(&session->train, &air, sample, profile, speed);
     int64_t offset = second_target_offset(session->train.offset, sample->speed, speed);
     return location == SECOND_NO_STOP || location + offset > target;
 }
@@ -145,7 +176,8 @@ int second_calls(const second_session *session, const second_sample *sample,
 second_prediction second_predict(const second_session *session, const second_sample *sample,
                                  const second_profile *profile, const second_targets *targets)
 {
-    second_prediction found = {second_walk(session, sample, profile, 0), 0};
+    second_air air = second_held_air(session);
+    second_prediction found = {second_walk(&session->train, &air, sample, profile, 0), 0};
     for (int64_t i = 0; found.cause == 0 && i < targets->records; i++)
         if (second_calls(session, sample, profile, targets->location[i], targets->speed[i]))
             found.cause = i + 1;

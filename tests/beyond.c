@@ -10,17 +10,16 @@
 #include <stdio.h>
 #include <stdlib.h>
 
-int64_t second_walk(const second_session *, const second_sample *, const second_profile *, int64_t);
+int64_t second_walk(const second_consist *, const second_air *, const second_sample *, const second_profile *, int64_t);
 
 int main(int count, char **words)
 {
     if (count != 3)
         return 2;
-    second_session session = {.open = 1,
-                              .train = {.cars = 1, .axles = 2, .weight = 30000, .length = 50, .application = 30000, .set = 9000},
-                              .brakes = {.hold = 9000, .a = 9000}};
+    second_consist train = {.cars = 1, .axles = 2, .weight = 30000, .length = 50, .application = 30000, .set = 9000};
+    second_air air = {.a = 9000};
     second_sample sample = {.head = 5000, .speed = atol(words[1])};
     second_profile profile = {.records = 2, .start = {0, 40000}, .grade = {atol(words[2]), 0}};
-    printf("%ld\n", (long)second_walk(&session, &sample, &profile, 0));
+    printf("%ld\n", (long)second_walk(&train, &air, &sample, &profile, 0));
     return 0;
 }

@@ -50,13 +50,33 @@ def made(samples, profile=LEVEL, targets="", **train):
     return feeds.make("\n".join(lines) + "\n")
 
 
+def told(lines):
+    """A pair for each sample, the second line held to what is so for all: time and state are the first's, the bit is
+    1 exactly with a cause, and before the penalty bit, cause and location are 0."""
+    pairs = feeds.answers(lines)
+    for first, second in pairs:
+        if first.startswith("x"):
+            continue
+        time, state, penalty, _, _ = first.split(" ")
+        called, cause, stop = second.split(" ")[2:]
+        right = second.startswith("%s %s " % (time, state)) and called == str(int(cause != "0"))
+        if not right or penalty == "0" and (called, cause, stop) != ("0", "0", "0"):
+            raise AssertionError("%s after %s" % (second, first))
+    return pairs
+
+
+def both(samples, **more):
+    """The pairs of lines for such a feed."""
+    return told(run(made(samples, **more)).splitlines())
+
+
 def printed(samples, **more):
-    """The lines for such a feed."""
-    return run(made(samples, **more)).splitlines()
+    """The first lines for such a feed, the penalty's."""
+    return [first for first, _ in both(samples, **more)]
 
 
 def one_line(head="5000", speed="0.0", front="90.0", rear="90.0", **more):
-    """The line for one sample, standing unless it is told otherwise."""
+    """The first line for one sample, standing unless it is told otherwise."""
     return printed([(0, head, speed, front, rear)], **more)[0]
 
 
@@ -78,12 +98,17 @@ class Brakes(ctypes.Structure):
 
 class Session(ctypes.Structure):
     _fields_ = [("open", ctypes.c_int), ("begun", ctypes.c_int), ("train", Consist),
-                ("brakes", Brakes), ("cause", ctypes.c_int64)]
+                ("brakes", Brakes), ("cause", ctypes.c_int64), ("emergency", ctypes.c_int64)]
 
 
 class Profile(ctypes.Structure):
     _fields_ = [("records", ctypes.c_int64)] + [
         (name, ctypes.c_int64 * 257) for name in ("start", "grade", "curve")]
+
+
+class Decision(ctypes.Structure):
+    _fields_ = [("emergency", ctypes.c_int)] + [
+        (name, ctypes.c_int64) for name in ("time", "state", "penalty", "cause", "stop")]
 
 
 class Sample(ctypes.Structure):

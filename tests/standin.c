@@ -38,7 +38,7 @@ uint8_t buongilach_open(uint8_t *session, size_t session_bytes, const uint8_t *c
     if (planted("open: 12 first") && session_bytes < BUONGILACH_SESSION_BYTES)
         return 12;
     if (planted("open: B not 0")) {
-        second_put_bits(due, 56, 16, 1);
+        second_put_bits(due, 64, 16, 1);
         expected_seal(due);
     }
     return (uint8_t)written(answer, session, due, BUONGILACH_SESSION_BYTES);
@@ -48,8 +48,8 @@ bool buongilach_is_open(const uint8_t *session, size_t session_bytes)
 {
     second_session held;
     if (planted("is_open: by the mark") && session_bytes >= BUONGILACH_SESSION_BYTES)
-        return session[0] == 0x42 && session[1] == 0x54;
-    if (planted("is_open: 40 bytes only") && session_bytes > BUONGILACH_SESSION_BYTES)
+        return session[0] == 0x42 && session[1] == 0x55;
+    if (planted("is_open: 41 bytes only") && session_bytes > BUONGILACH_SESSION_BYTES)
         return false;
     return expected_held(part_of(session, session_bytes), &held);
 }
@@ -66,7 +66,12 @@ static const uint8_t *taken(const uint8_t *session, size_t session_bytes)
     if (planted("sample: the check word unread"))
         return record;
     bool sealed = memcmp(record, session, sizeof record) == 0;
-    second_put_bits(record, 20, 1, 1);
+    if (planted("sample: an emergency without a penalty") && sealed && second_bits(record, 16, 4) == 0) {
+        second_put_bits(record, 16, 4, 1);
+        expected_seal(record);
+        return record;
+    }
+    second_put_bits(record, 24, 1, 1);
     expected_seal(record);
     return planted("sample: an opening with any brakes") && sealed ? record : session;
 }
@@ -76,11 +81,12 @@ uint8_t buongilach_sample(uint8_t *session, size_t session_bytes, const uint8_t 
                           uint8_t *decision, size_t decision_bytes)
 {
     uint8_t next[BUONGILACH_SESSION_BYTES];
-    uint8_t due[BUONGILACH_DECISION_BYTES + 1] = {0};
-    if (planted("sample: 40 bytes only") && session_bytes > BUONGILACH_SESSION_BYTES)
+    uint8_t due[BUONGILACH_BOTH_DECISIONS_BYTES + 1] = {0};
+    uint8_t *const second = due + BUONGILACH_DECISION_BYTES;
+    if (planted("sample: 41 bytes only") && session_bytes > BUONGILACH_SESSION_BYTES)
         return 1;
-    if (planted("sample: 12 before 3") && decision_bytes < BUONGILACH_DECISION_BYTES && sample_bytes == BUONGILACH_SAMPLE_BYTES
-        && buongilach_is_open(session, session_bytes))
+    if (planted("sample: 12 before 3") && decision_bytes < BUONGILACH_BOTH_DECISIONS_BYTES
+        && sample_bytes == BUONGILACH_SAMPLE_BYTES && buongilach_is_open(session, session_bytes))
         return 12;
     if (planted("sample: reads a byte too many"))
         due[0] = ((const volatile uint8_t *)sample)[sample_bytes];
@@ -92,21 +98,33 @@ uint8_t buongilach_sample(uint8_t *session, size_t session_bytes, const uint8_t 
         return 11;
     if (planted("sample: a byte past the session") && answer == 0 && session_bytes > sizeof next)
         session[sizeof next] ^= 1;
-    if (planted("sample: a ninth byte") && answer == 0)
-        decision[BUONGILACH_DECISION_BYTES] = 0;
+    if (planted("sample: a seventeenth byte") && answer == 0)
+        decision[BUONGILACH_BOTH_DECISIONS_BYTES] = 0;
+    if (planted("sample: room of 15 bytes") && answer == 12 && decision_bytes == 15)
+        return 0;
+    if (planted("sample: the first record twice"))
+        memcpy(second + 1, due + 1, BUONGILACH_DECISION_BYTES - 1);
+    if (planted("sample: the second record with the first's mark"))
+        second[0] = due[0];
+    if (planted("sample: the emergency unwritten") && answer == 0) {
+        second_put_bits(next, 20, 4, 0);
+        expected_seal(next);
+    }
+    if (planted("sample: the penalty's cause for emergency's") && answer == 0 && second_bits(second, 35, 1) == 1)
+        second_put_bits(second, 36, 4, second_bits(due, 36, 4));
     if (planted("sample: time kept when refused") && answer == 10) {
-        memcpy(session + 17, sample + 1, 3);
+        memcpy(session + 18, sample + 1, 3);
         expected_seal(session);
     }
     if (planted("sample: decision written when refused") && answer == 9)
         memset(decision, 0x44, decision_bytes);
     if (planted("sample: the last rear lost") && answer == 0) {
-        second_put_bits(next, 120, 16, 0);
+        second_put_bits(next, 128, 16, 0);
         expected_seal(next);
     }
     if (planted("sample: the session stays") && answer == 0)
         memcpy(next, session, sizeof next);
-    written(answer, decision, due, BUONGILACH_DECISION_BYTES);
+    written(answer, decision, due, BUONGILACH_BOTH_DECISIONS_BYTES);
     return (uint8_t)written(answer, session, next, sizeof next);
 }
 
@@ -190,6 +208,8 @@ uint8_t buongilach_read_decision(const uint8_t *decision, size_t decision_bytes,
     unsigned answer = expected_read_decision(part_of(decision, decision_bytes), numbers_count, due);
     if (planted("read_decision: a sixth number") && answer == 0)
         numbers[5] = 0;
+    if (planted("read_decision: 0x44 only") && answer == 0 && decision[0] != 0x44)
+        return 3;
     if (planted("read_decision: the no-stop value refused") && answer == 0 && due[4] == BUONGILACH_NO_STOP)
         return 4;
     if (answer == 0)

@@ -78,8 +78,30 @@ class Compare(unittest.TestCase):
         self.assertEqual(status, 3)
         self.assertIn("never occurred: state 0,", out)
         self.assertIn("cause 8, refusal 2,", out)
-        self.assertIn("refusal 10, a runaway\n", out)
+        self.assertIn("refusal 10, emergency called in state 0,", out)
+        self.assertIn("emergency called in state 5, emergency cause 1 in state 0,", out)
+        self.assertIn("emergency cause 8 in state 5, a runaway\n", out)
         self.assertEqual(self.run_compare("299", "--", "true", "--", "true")[0], 0)
+
+    def test_emergency_is_counted(self):
+        # On each of 3 feeds: a sample without emergency, one that calls it, two in which it stands, a refused one.
+        said = ("0 0 0 0 7\n0 0 0 0 0\n1 3 1 2 7\n1 3 1 5 7\nx 8\n2 4 1 2 7\n2 4 1 5 7\n3 4 1 2 7\n3 4 1 5 7\n")
+        program = [*PYTHON, "-c", "print(%r, end='')" % said]
+        status, out, _ = self.run_compare("3", "--", *program, "--", *program)
+        self.assertEqual(status, 0, out)
+        self.assertIn("compared 3 feeds, 27 lines (12 accepted, 3 refused)\n", out)
+        self.assertIn("\nstates    0:3  1:0  2:0  3:3  4:6  5:0\n", out)
+        self.assertIn("\nemergency 0:3  1:0  2:0  3:0  4:0  5:9  6:0  7:0  8:0; "
+                      "called in states 0:0  1:0  2:0  3:3  4:0  5:0\n", out)
+        self.assertIn("\n          each cause in each state: 2 of 48\n", out)
+        self.assertNotIn("neither", out)
+
+    def test_a_missing_second_line_is_odd(self):
+        for said in ("0 0 0 0 7\n", "0 0 0 0 7\nx 8\n", "0 0 0 0 7\n0 0 0 0\n"):
+            program = [*PYTHON, "-c", "print(%r, end='')" % said]
+            status, out, _ = self.run_compare("1", "--", *program, "--", *program)
+            self.assertIn("\n%d lines are neither a decision nor a refusal\n" % said.count("\n"), out)
+            self.assertIn("(0 accepted, 0 refused)", out)
 
     def test_runaways_are_counted(self):
         # 4 feeds of the kind, and a program that says of every sample that there is no stop.

@@ -44,8 +44,8 @@ class Drawn(unittest.TestCase):
     def setUpClass(cls):
         cls.data, cls.lines = run_of("trip")
         cls.svg = Svg(draw(cls.data, cls.lines))
-        cls.decisions = [[int(word) for word in line.split()] for line in cls.lines
-                         if line[0] != "x"]
+        pairs = [pair for pair in feeds.answers(cls.lines) if pair[0][0] != "x"]
+        cls.decisions, cls.emergencies = ([[int(word) for word in line.split()] for line in lines] for lines in zip(*pairs))
 
     def test_a_point_each_accepted_sample(self):
         for name in ("head", "speed", "stop"):
@@ -62,7 +62,47 @@ class Drawn(unittest.TestCase):
         self.assertEqual(line.get("x1"), line.get("x2"))
 
     def test_no_penalty_no_mark(self):
-        self.assertEqual(Svg(draw(*run_of("case-5532"))).marks("penalty"), [])
+        svg = Svg(draw(*run_of("case-5532")))
+        for name in ("penalty", "emergency", "emergency-stop"):
+            self.assertEqual(svg.marks(name), [])
+        self.assertNotIn("emergency stop", svg.texts())
+
+    def test_emergency_stop_from_the_penalty_on(self):
+        called = next(place for place, one in enumerate(self.decisions) if one[2] == 1)
+        points, stops = self.svg.points("emergency-stop"), self.svg.points("stop")
+        self.assertEqual(len(points), len(self.decisions) - called)
+        self.assertEqual([x for x, _ in points], [x for x, _ in stops[called:]])
+        # on the scale of the other stops: heights differ where the feet do, the earlier stop lower
+        for (_, y), (_, other), first, second in zip(points, stops[called:], self.decisions[called:], self.emergencies[called:]):
+            self.assertEqual(y > other, second[4] < first[4])
+        self.assertEqual(self.svg.marks("emergency"), [])
+        self.assertIn("emergency stop", self.svg.texts())
+
+    def test_emergency_at_its_sample(self):
+        svg = Svg(draw(*run_of("figures/emergency-at-the-board")))
+        lines = {name: svg.marks(name)[0] for name in ("penalty", "emergency")}
+        self.assertEqual([(lines[name].get("data-time"), lines[name].get("data-cause")) for name in ("penalty", "emergency")],
+                         [("1", "2"), ("3", "3")])
+        points = svg.points("emergency-stop")
+        self.assertEqual(len(points), 5)
+        self.assertEqual(float(lines["emergency"].get("x1")), points[2][0])
+        # the stop is at the board: target 3's line
+        board, = [mark for mark in svg.marks("target") if mark.get("data-place") == "3"]
+        self.assertAlmostEqual(points[2][1], float(board.get("y1")), delta=0.11)
+        self.assertIn("emergency at 3 s, target 3", svg.texts())
+
+    def test_both_called_at_once(self):
+        svg = Svg(draw(*run_of("figures/emergency-no-stop")))
+        lines = [svg.marks(name)[0] for name in ("emergency", "penalty")]
+        self.assertEqual({line.get("data-time") for line in lines}, {"1"})
+        self.assertEqual(lines[0].get("x1"), lines[1].get("x1"))
+        heights = {mark.get("y") for mark in svg.root.iter() if (mark.text or "").endswith(" at 1 s, target 2")}
+        self.assertEqual(len(heights), 2)
+
+    def test_no_emergency_stop_is_marked(self):
+        svg = Svg(draw(*run_of("figures/emergency-no-stop")))
+        self.assertEqual((len(svg.marks("no-stop")), len(svg.marks("no-emergency-stop"))), (2, 1))
+        self.assertEqual(len(set(svg.points("emergency-stop"))), 1)
 
     def test_states_as_printed(self):
         want = []
@@ -114,7 +154,7 @@ class Drawn(unittest.TestCase):
         text = example("case-5532")
         bad = "sample 0 head 5000 speed 0.0 front 90.0 rear 90.0 mark 0x54\n"
         data = feeds.make(text.replace("sample 0", bad + bad + "sample 0", 1))
-        svg = Svg(draw(data, ["x 3", "x 3"] + run_of("case-5532")[1]))
+        svg = Svg(draw(data, ["x 3", "x 3", *run_of("case-5532")[1]]))
         self.assertEqual([mark.get("data-time") for mark in svg.marks("refused")], ["0", "0"])
 
     def test_no_stop_is_marked_and_not_drawn(self):
@@ -129,14 +169,15 @@ class Drawn(unittest.TestCase):
         self.assertGreaterEqual(len(self.svg.marks("tick")), 12)
 
     def test_all_is_inside(self):
-        for name in ("trip", "refused", "several-targets", "long-descent", "emergency"):
+        for name in ("trip", "refused", "several-targets", "long-descent", "emergency", "figures/emergency-at-the-board",
+                     "figures/emergency-later-target", "figures/emergency-no-stop"):
             svg = Svg(draw(*run_of(name)))
             for mark in svg.root.iter():
                 for key, limit in (("x", looks.WIDTH), ("x1", looks.WIDTH), ("y", looks.HEIGHT),
                                    ("y1", looks.HEIGHT), ("y2", looks.HEIGHT)):
                     if mark.get(key):
                         self.assertTrue(0 <= float(mark.get(key)) <= limit, (name, mark.attrib))
-            for points in (svg.points(name) for name in ("head", "stop", "speed")):
+            for points in (svg.points(name) for name in ("head", "stop", "emergency-stop", "speed")):
                 for x, y in points:
                     self.assertTrue(looks.LEFT <= x <= looks.RIGHT and looks.WHERE[0] <= y <= looks.FAST[1])
 
@@ -168,9 +209,13 @@ class Refused(unittest.TestCase):
 
     def test_unfit(self):
         data, lines = run_of("trip")
-        self.assert_unfit(data, lines[:-1], "lines for")
+        self.assert_unfit(data, lines[:-2], "lines for")
+        self.assert_unfit(data, lines[:-1], "the first of a sample's two")
         self.assert_unfit(data, lines[1:] + lines[:1], "not this feed's")
-        self.assert_unfit(data, ["x 8"] * len(lines), "no sample was accepted")
+        self.assert_unfit(data, lines[2:] + lines[:2], "not this feed's")
+        other_state = [lines[0], lines[1].replace("0 0 ", "0 1 ", 1)] + lines[2:]
+        self.assert_unfit(data, other_state, "not this feed's")
+        self.assert_unfit(data, ["x 8"] * len(feeds.answers(lines)), "no sample was accepted")
         self.assert_unfit(data[:20], ["x 6"], "no whole profile")
 
     def test_command(self):

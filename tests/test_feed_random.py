@@ -5,10 +5,10 @@ import unittest
 
 from feed_texts import TRAIN, run
 from here import feeds
-from second_program import run as second
+from second_program import run as second, told
 
 # Of the feeds of seeds 0 to 199; changes only when the generator is changed on purpose.
-DIGEST = "7e3d22944dac5e3b883e7cb6ad3992f1e9fc1414536d62cfc21392eaacaf8309"
+DIGEST = "215ad53252b37cd72e20de26cb5d751f50a539837c1e52be2347019d98da3ff7"
 
 
 class Random(unittest.TestCase):
@@ -84,6 +84,49 @@ class Runaways(unittest.TestCase):
                                 ("profile 0 grade -400\nprofile 9000 grade -399\nprofile 9001 grade -400", 0)):
             with self.subTest(profile=profile):
                 self.assertEqual(self.count(profile=profile + "\n"), counts)
+
+
+class Emergencies(unittest.TestCase):
+    """The kind.  A seed that is told to be of it is its own number, but for those that pick it themselves."""
+
+    def test_called_where_it_should_be(self):
+        wanted, before, others = set(), 0, 0
+        for number in range(48):
+            # 288 more has the same place and state
+            seed = number if feeds.kind_of(number) != "emergency" else number + 288
+            pairs = told(second(feeds.random_feed(seed, "emergency")).splitlines())
+            penalties, emergencies = ([[int(word) for word in line.split()] for line in lines] for lines in zip(*pairs))
+            called = next(place for place, one in enumerate(emergencies) if one[2])
+            with self.subTest(number=number):
+                _, state, _, cause, _ = emergencies[called]
+                self.assertEqual((cause, state), (number % 8 + 1, (number + number // 24) % 6))
+                self.assertEqual({one[1] for one in emergencies[called:]}, set(range(6)))
+            wanted.add((cause, state))
+            before += penalties[called - 1][2] if called else 0
+            others += penalties[called][3] != cause
+        self.assertEqual(len(wanted), 48)
+        # in some the penalty comes first, and in some by another target
+        self.assertGreater(before, 5)
+        self.assertGreater(others, 2)
+
+    def test_any_three_hundred_seeds_have_all(self):
+        for first in range(0, 27):
+            numbers = [seed // 27 for seed in range(first, first + 300) if feeds.kind_of(seed) == "emergency"]
+            self.assertGreaterEqual(len(numbers), 11)
+        # eleven in a row, wherever they begin
+        for first in range(100):
+            row = range(first, first + 11)
+            self.assertEqual({number % 8 for number in row}, set(range(8)))
+            self.assertEqual({(number + number // 24) % 6 for number in row}, set(range(6)))
+
+
+class Answers(unittest.TestCase):
+
+    def test_pairs(self):
+        self.assertEqual(feeds.answers(["a", "b", "x 3", "c", "d"]), [("a", "b"), ("x 3", None), ("c", "d")])
+        self.assertEqual(feeds.answers(["x 2"]), [("x 2", None)])
+        self.assertEqual(feeds.answers(["a", "b", "c"]), [("a", "b"), ("c", None)])
+        self.assertEqual(feeds.answers([]), [])
 
 
 class Command(unittest.TestCase):

@@ -1,5 +1,6 @@
 """Tests of what a customer mounts, over a stand-in for the archive (standin.c): python3 -m unittest discover -s tests"""
 
+import ctypes
 import os
 import re
 import subprocess
@@ -53,7 +54,7 @@ class Examples(unittest.TestCase):
                 self.assertEqual(lines(self.mounted, given), lines(self.second, given))
 
     def test_case(self):
-        self.assertEqual(lines(self.case), b"0 0 0 0 5000\n1 0 1 1 5032\n2 0 1 1 5001\n")
+        self.assertEqual(lines(self.case), b"0 0 0 0 5000\n0 0 0 0 0\n1 0 1 1 5032\n1 0 0 0 5032\n2 0 1 1 5001\n2 0 0 0 5001\n")
 
     def test_case_in_cpp(self):
         made = os.path.join(built.place(), "case-cpp.o")
@@ -66,6 +67,17 @@ class Examples(unittest.TestCase):
             shown = re.findall(r"```c\n(.*?)```", file.read(), re.S)
         with open(os.path.join(EXAMPLES, "case.c"), encoding="utf-8") as file:
             self.assertEqual(shown, [file.read()])
+
+
+    def test_the_paper_has_the_session_of_the_case(self):
+        """docs/RECORDS.md shows the bytes that an opening leaves."""
+        with open(os.path.join(ROOT, "docs", "RECORDS.md"), encoding="utf-8") as file:
+            consist, session = (bytes.fromhex(words) for words in re.findall(
+                r"^\| (?:consist|session)[^|]*\| `([0-9A-F ]+)` \|$", file.read(), re.M))
+        standin = built.library("standin.so", *FLAGS, STANDIN, EXPECTED, built.SECOND)
+        room = ctypes.create_string_buffer(b"\xa5" * 50, 50)
+        self.assertEqual(standin.buongilach_open(room, ctypes.c_size_t(50), consist, ctypes.c_size_t(16)), 0)
+        self.assertEqual(room.raw, session + b"\xa5" * 9)
 
 
 class Hostile(unittest.TestCase):

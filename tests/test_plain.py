@@ -1,4 +1,4 @@
-"""Tests of bench/plain.c, what the archive is timed against: it answers as the second program does."""
+"""Tests of bench/plain.c and its parts, what the archive is timed against: it answers as the second program does."""
 
 import ctypes
 import os
@@ -30,11 +30,11 @@ def answers(opened, judged, data):
     session = ctypes.create_string_buffer(SESSION_BYTES)
     said = [opened(session, consist, ctypes.c_size_t(len(consist)))]
     for sample in samples:
-        out = ctypes.create_string_buffer(b"\xa5" * 9, 9)
+        out = ctypes.create_string_buffer(b"\xa5" * 17, 17)
         said.append((judged(session, sample, ctypes.c_size_t(len(sample)),
                             profile, ctypes.c_size_t(len(profile)),
                             targets, ctypes.c_size_t(len(targets)),
-                            out, ctypes.c_size_t(8 if sample[3:4] != b"\x07" else 7)), out.raw))
+                            out, ctypes.c_size_t(16 if sample[3:4] != b"\x07" else 15)), out.raw))
     return said
 
 
@@ -61,18 +61,35 @@ class Alike(unittest.TestCase):
             with self.subTest(name=name):
                 self.assertFalse(self.difference(self.plain, feeds.make(example(name))))
 
-    def test_a_slip_is_seen(self):
-        """The comparison can fail: a penalty at equality, on the case of document 01."""
-        with open(PLAIN) as file:
+    def test_figures(self):
+        for name in examples("figures"):
+            data = feeds.make(example("figures/" + name))
+            if parts(data):
+                with self.subTest(name=name):
+                    self.assertFalse(self.difference(self.plain, data))
+
+    def slipped(self, number, old, new):
+        """Plain C with one of the walk's lines changed."""
+        folder = os.path.join(built.place(), "slip-%d" % number)
+        shutil.copytree(os.path.join(ROOT, "bench"), folder)
+        path = os.path.join(folder, "plain", "walk.c")
+        with open(path) as file:
             words = file.read()
-        slip = words.replace("found->location[i] + offset > target",
-                             "found->location[i] + offset >= target")
-        self.assertNotEqual(slip, words)
-        path = os.path.join(built.place(), "slip.c")
+        self.assertEqual(words.count(old), 1)
         with open(path, "w") as file:
-            file.write(slip)
-        shutil.copy(os.path.join(ROOT, "bench", "plain.h"), built.place())
-        self.assertTrue(self.difference(built.library("slip.so", path), feeds.make(example("case-5532"))))
+            file.write(words.replace(old, new))
+        return built.library("slip-%d.so" % number, os.path.join(folder, "plain.c"))
+
+    def test_a_slip_is_seen(self):
+        """The comparison can fail: a penalty at equality, on the case of document 01; emergency past its board alone, and
+        with 10 in place of 12, on the issue's vector."""
+        for number, (old, new, name) in enumerate((
+                ("found->location[i] + offset > target", "found->location[i] + offset >= target", "case-5532"),
+                ("stop >= targets->location[i]", "stop > targets->location[i]", "figures/emergency-at-the-board"),
+                ("applied.b, 12, most", "applied.b, 10, most", "figures/emergency-at-the-board"))):
+            with self.subTest(new=new):
+                slip = self.slipped(number, old, new)
+                self.assertTrue(self.difference(slip, feeds.make(example(name))))
 
 
 if __name__ == "__main__":

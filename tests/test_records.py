@@ -14,7 +14,8 @@ CASE = {
     "profile": [0, 0, 0, 0, 40000, 0, 0, 0],
     "targets": [5531, 0],
     "sample": [0x53, 1, 1, 0, 5000, WITH_READINGS[1.0], WITH_READINGS[90.0], WITH_READINGS[90.0]],
-    "decision": [0x44, 1, 0, 1, 1, 5032],
+    "decision, the penalty's": [0x44, 1, 0, 1, 1, 5032],
+    "decision, emergency's": [0x45, 1, 0, 0, 0, 5032],
 }
 
 
@@ -70,14 +71,19 @@ class Records(unittest.TestCase):
     def test_the_case_in_bytes(self):
         for name, values in CASE.items():
             with self.subTest(record=name):
-                each = widths(name)
+                each = widths(name.split(",")[0])
                 self.assertEqual(records.unpack(bytes_of(name), each * (len(values) // len(each))), values)
 
     def test_the_session_is_sealed(self):
         session = bytes_of("session")
-        self.assertEqual(session[20:36], bytes_of("consist"))
-        running = [sum(session[:count]) for count in range(1, 37)]
-        self.assertEqual(records.unpack(session[36:], [16, 16]), [running[-1] % 65536, sum(running) % 65536])
+        self.assertEqual(session[21:37], bytes_of("consist"))
+        running = [sum(session[:count]) for count in range(1, 38)]
+        self.assertEqual(records.unpack(session[37:], [16, 16]), [running[-1] % 65536, sum(running) % 65536])
+
+    def test_the_session_as_opened(self):
+        """Mark, hold and A, the set pressure; all else before the consist is 0."""
+        values = records.unpack(bytes_of("session")[:21], widths("session")[:-3])
+        self.assertEqual(values, [0x4255, 0, 0, 0, 0, 9000, 9000, 0, 0, 0, 0, 0, 0])
 
 
 if __name__ == "__main__":

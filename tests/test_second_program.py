@@ -13,6 +13,7 @@ from second_program import CASE, made, run
 
 # 16 consist, 2 + 12 profile, 1 + 5 targets, samples from 36 on.
 WHOLE = made(CASE[:2], targets="target 5531 speed 0")
+LINES = ["0 0 0 0 5000\n0 0 0 0 0\n", "1 0 1 1 5032\n1 0 0 0 5032\n"]
 
 
 class Program(unittest.TestCase):
@@ -27,7 +28,7 @@ class Program(unittest.TestCase):
             elif end < 36:
                 want = "x 7\n"
             else:
-                want = "".join(["0 0 0 0 5000\n", "1 0 1 1 5032\n"][:(end - 36) // 20])
+                want = "".join(LINES[:(end - 36) // 20])
                 if (end - 36) % 20:
                     want += "x 2\n"
             with self.subTest(end=end):
@@ -44,7 +45,7 @@ class Program(unittest.TestCase):
 
     def test_refused_sample_does_not_end(self):
         data = WHOLE[:36] + b"\0" * 20 + WHOLE[36:]
-        self.assertEqual(run(data), "x 3\n0 0 0 0 5000\n1 0 1 1 5032\n")
+        self.assertEqual(run(data), "x 3\n" + "".join(LINES))
 
     def test_nothing_is_read_on(self):
         # (feed, how many bytes are needed to know the answer)
@@ -62,17 +63,17 @@ class Program(unittest.TestCase):
                 subprocess.run([built.second()], stdin=file, stdout=subprocess.DEVNULL, check=True)
                 self.assertEqual(os.lseek(file.fileno(), 0, os.SEEK_CUR), needed)
 
-    def test_a_line_as_soon_as_its_sample(self):
+    def test_both_lines_as_soon_as_their_sample(self):
         with subprocess.Popen([built.second()], stdin=subprocess.PIPE, stdout=subprocess.PIPE,
                               bufsize=0) as child:
             child.stdin.write(WHOLE[:55])
             self.assertEqual(select.select([child.stdout], [], [], 0.1)[0], [])
             child.stdin.write(WHOLE[55:56])
             self.assertTrue(select.select([child.stdout], [], [], 10)[0])
-            self.assertEqual(child.stdout.read(100), b"0 0 0 0 5000\n")
+            self.assertEqual(child.stdout.read(100), LINES[0].encode())
             child.stdin.write(WHOLE[56:])
             self.assertTrue(select.select([child.stdout], [], [], 10)[0])
-            self.assertEqual(child.stdout.read(100), b"1 0 1 1 5032\n")
+            self.assertEqual(child.stdout.read(100), LINES[1].encode())
             child.stdin.close()
             self.assertEqual(child.stdout.read(100), b"")
 

@@ -73,7 +73,7 @@ class Calls(unittest.TestCase):
         session = self.opened()
         held = session.brakes
         self.assertEqual((held.state, held.hold, held.a, held.b, held.equalization, held.fall,
-                          session.cause), (0, 9000, 9000, 0, 0, 0, 0))
+                          session.cause, session.emergency), (0, 9000, 9000, 0, 0, 0, 0, 0))
         before = bytes(session)
         for data, number in ((b"", 2), (self.PARTS[0][:15], 2), (self.PARTS[0] + b"\0", 2),
                              (bytes(16), 4)):
@@ -83,7 +83,7 @@ class Calls(unittest.TestCase):
 
     def test_no_session(self):
         session = Session()
-        output = ctypes.create_string_buffer(8)
+        output = ctypes.create_string_buffer(16)
         for sample in (self.PARTS[3][0], b"abc"):
             self.assertEqual(self.judge(session, sample, output), 1)
         self.assertEqual(bytes(session), bytes(Session()))
@@ -93,51 +93,53 @@ class Calls(unittest.TestCase):
         session = self.opened()
         output = ctypes.create_string_buffer(b"untouched", 20)
         good = self.PARTS[3][0]
-        self.assertEqual(self.judge(session, good, ctypes.create_string_buffer(8)), 0)
+        self.assertEqual(self.judge(session, good, ctypes.create_string_buffer(16)), 0)
         before = bytes(session)
         nan = bytes.fromhex("7fc00000")
         head = bytes.fromhex("000000")
         wrong = b"\0" + good[1:5] + head + nan + good[12:]
-        self.assertEqual(self.judge(session, wrong + b"\0", output, 7, b"", b"x"), 2)
-        self.assertEqual(self.judge(session, wrong, output, 7, b"", b"x"), 3)
+        self.assertEqual(self.judge(session, wrong + b"\0", output, 15, b"", b"x"), 2)
+        self.assertEqual(self.judge(session, wrong, output, 15, b"", b"x"), 3)
         wrong = b"\x53" + wrong[1:]
-        self.assertEqual(self.judge(session, wrong, output, 7, b"", b"x"), 6)
-        self.assertEqual(self.judge(session, wrong, output, 7, None, b"x"), 7)
-        self.assertEqual(self.judge(session, wrong, output, 7), 8)
+        self.assertEqual(self.judge(session, wrong, output, 15, b"", b"x"), 6)
+        self.assertEqual(self.judge(session, wrong, output, 15, None, b"x"), 7)
+        self.assertEqual(self.judge(session, wrong, output, 15), 8)
         wrong = wrong[:8] + bytes(4) + wrong[12:]
-        self.assertEqual(self.judge(session, wrong, output, 7), 9)
+        self.assertEqual(self.judge(session, wrong, output, 15), 9)
         wrong = wrong[:3] + b"\1" + wrong[4:]
-        self.assertEqual(self.judge(session, wrong, output, 7), 10)
+        self.assertEqual(self.judge(session, wrong, output, 15), 10)
         wrong = wrong[:5] + good[5:8] + wrong[8:]
-        self.assertEqual(self.judge(session, wrong, output, 7), 12)
-        self.assertEqual(self.judge(session, wrong, output, 0), 12)
+        self.assertEqual(self.judge(session, wrong, output, 15), 12)
+        for room in (0, 7, 8, 14):
+            self.assertEqual(self.judge(session, wrong, output, room), 12)
         self.assertEqual(bytes(session), before)
         self.assertEqual(output.raw[:9], b"untouched")
-        self.assertEqual(self.judge(session, wrong, output), 0)
+        self.assertEqual(self.judge(session, wrong, output, 16), 0)
 
-    def test_output_is_eight_bytes(self):
+    def test_output_is_sixteen_bytes(self):
         session = self.opened()
         output = ctypes.create_string_buffer(bytes(range(20)), 20)
-        for data in self.PARTS[3][:2]:
-            self.assertEqual(self.judge(session, data, output), 0)
-        # Mark 44, time 1, state 000, penalty 1, cause 0001, location 5,032.
-        self.assertEqual(output.raw.hex(),
-                         "44000001" "11" "0013a8" + bytes(range(8, 20)).hex())
+        self.assertEqual(self.judge(session, self.PARTS[3][0], output), 0)
+        self.assertEqual(output.raw.hex(), "4400000000001388" "4500000000000000" "10111213")
+        self.assertEqual(self.judge(session, self.PARTS[3][1], output), 0)
+        # Mark 44, time 1, state 000, penalty 1, cause 0001, location 5,032; mark 45, the
+        # same time and state, no emergency, the same location.
+        self.assertEqual(output.raw.hex(), "44000001" "11" "0013a8" "45000001" "00" "0013a8" "10111213")
 
     def test_targets_may_change(self):
         # The cause is the place in the list lent at the calling sample (decision 31).
         session = self.opened()
-        output = ctypes.create_string_buffer(8)
+        output = ctypes.create_string_buffer(16)
         self.assertEqual(self.judge(session, self.PARTS[3][0], output), 0)
         lent = feeds.pack_target(10, 0) + feeds.pack_target(5531, 0)
         self.assertEqual(self.judge(session, self.PARTS[3][1], output, None, None, lent), 0)
-        self.assertEqual(output.raw.hex(), "44000001" "12" "0013a8")
+        self.assertEqual(output.raw[:8].hex(), "44000001" "12" "0013a8")
         self.assertEqual(self.judge(session, self.PARTS[3][2], output, None, None, b""), 0)
-        self.assertEqual(output.raw.hex(), "44000002" "12" "001389")
+        self.assertEqual(output.raw[:8].hex(), "44000002" "12" "001389")
 
     def test_rejected_lengths_of_profile_and_targets(self):
         session = self.opened()
-        output = ctypes.create_string_buffer(8)
+        output = ctypes.create_string_buffer(16)
         good, profile, targets = self.PARTS[3][0], self.PARTS[1][2:], self.PARTS[2][1:]
         for lent in (b"", profile[:6], profile[:11], profile + b"\0"):
             self.assertEqual(self.judge(session, good, output, None, lent), 6)

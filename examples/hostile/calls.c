@@ -80,34 +80,36 @@ unsigned try_open(part session_before, part consist_given, uint8_t *opened)
     return answer;
 }
 
-/* The library's answer and the session that follows, counted. */
-static void count_sample(unsigned answer, uint8_t *next)
+/* The library's answer and the session that follows, counted; `before` is the one that it was lent. */
+static void count_sample(unsigned answer, part before, uint8_t *next)
 {
     tried.answers[answer < 13 ? answer : 0]++;
     if (answer != 0)
         return;
-    second_session held;
+    second_session held, was;
     hold(buongilach_is_open(session.bytes, session.count), "is_open", "denies the session after a sample");
-    if (expected_held(part_of(session.bytes, session.count), &held))
+    if (expected_held(part_of(session.bytes, session.count), &held) && expected_held(before, &was)) {
         tried.states[held.brakes.state]++;
+        tried.called[held.brakes.state] += was.emergency == 0 && held.emergency != 0;
+    }
     if (out.count >= BUONGILACH_DECISION_BYTES)
         tried.unstopped += second_bits(out.bytes, 40, 24) == BUONGILACH_NO_STOP;
     if (next != NULL)
         memcpy(next, session.bytes, session.count);
 }
 
-unsigned try_sample(part session_before, part sample_given, part profile_given, part targets_given, part decision_before,
+unsigned try_sample(part session_before, part sample_given, part profile_given, part targets_given, part decisions_before,
                     uint8_t *next)
 {
     uint8_t due_session[BUONGILACH_SESSION_BYTES];
-    uint8_t due_decision[BUONGILACH_DECISION_BYTES];
-    unsigned wanted = expected_sample(session_before, sample_given, profile_given, targets_given, decision_before.count,
-                                      due_session, due_decision);
+    uint8_t due_decisions[BUONGILACH_BOTH_DECISIONS_BYTES];
+    unsigned wanted = expected_sample(session_before, sample_given, profile_given, targets_given, decisions_before.count,
+                                      due_session, due_decisions);
     lend(&session, session_before);
     lend(&sample, sample_given);
     lend(&profile, profile_given);
     lend(&targets, targets_given);
-    lend(&out, decision_before);
+    lend(&out, decisions_before);
     hold(buongilach_is_open(session.bytes, session.count) == (wanted != 1), "is_open", "answers otherwise than is due");
     unsigned answer = buongilach_sample(session.bytes, session.count, sample.bytes, sample.count, profile.bytes, profile.count,
                                         targets.bytes, targets.count, out.bytes, out.count);
@@ -116,8 +118,8 @@ unsigned try_sample(part session_before, part sample_given, part profile_given, 
     hold_read(&profile, "sample");
     hold_read(&targets, "sample");
     hold_written(&session, due_session, wanted == 0 ? sizeof due_session : 0, "sample (session)");
-    hold_written(&out, due_decision, wanted == 0 ? sizeof due_decision : 0, "sample (decision)");
-    count_sample(answer, next);
+    hold_written(&out, due_decisions, wanted == 0 ? sizeof due_decisions : 0, "sample (decisions)");
+    count_sample(answer, session_before, next);
     return answer;
 }
 

@@ -12,6 +12,7 @@ typedef struct {
     unsigned long answers[13]; /* of sample calls */
     unsigned long states[6];   /* of accepted ones */
     unsigned long unstopped;   /* accepted without a stop */
+    unsigned long called[6];   /* accepted ones that called emergency, by state */
 } tally;
 
 extern tally tried;
@@ -21,7 +22,7 @@ void calls_make(void);
 /* Each answers what the library answered. What is written to is given as the part that stands there before the call; `opened` and
  * `next` take the whole session buffer after an accepted one. */
 unsigned try_open(part session, part consist, uint8_t *opened);
-unsigned try_sample(part session, part sample, part profile, part targets, part decision, uint8_t *next);
+unsigned try_sample(part session, part sample, part profile, part targets, part decisions, uint8_t *next);
 void try_version(void);
 void try_judges(part consist, part sample, part profile, part targets);
 unsigned try_write_consist(const uint32_t *fields, part out);

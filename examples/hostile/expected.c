@@ -5,15 +5,15 @@
 
 #include <string.h>
 
-enum { MARK = 0x4254, MOST_PRESSURE = 16000, MOST_B = 9434, MOST_FALL = 3142, MOST_CAUSE = 8, BITS_24 = 1 << 24 };
+enum { MARK = 0x4255, MOST_PRESSURE = 16000, MOST_B = 9434, MOST_FALL = 3142, MOST_CAUSE = 8, BITS_24 = 1 << 24 };
 
 /* ---- the session's record */
 
-/* Where each field begins, and its width: mark, cause, sampled, state, hold, A, B, equalization, fall, last front, last rear and
- * last time; the consist follows at byte 20, the check word at byte 36. */
-static const int held_at[12] = {0, 16, 20, 21, 24, 40, 56, 72, 88, 104, 120, 136};
-static const int held_width[12] = {16, 4, 1, 3, 16, 16, 16, 16, 16, 16, 16, 24};
-enum { HELD_CONSIST = 20, HELD_CHECK = 36 };
+/* Where each field begins, and its width: mark, cause, emergency, sampled, state, hold, A, B, equalization, fall, last front, last
+ * rear and last time; the consist follows at byte 21, the check word at byte 37. */
+enum { FIELDS = 13, HELD_CONSIST = 21, HELD_CHECK = 37 };
+static const int held_at[FIELDS] = {0, 16, 20, 24, 25, 32, 48, 64, 80, 96, 112, 128, 144};
+static const int held_width[FIELDS] = {16, 4, 4, 1, 7, 16, 16, 16, 16, 16, 16, 16, 24};
 
 static int64_t held_field(const uint8_t *bytes, int place)
 {
@@ -75,24 +75,26 @@ static bool is_opened(const second_brakes *k, int64_t set)
         && k->last_front == 0 && k->last_rear == 0 && k->last_time == 0;
 }
 
-/* `isOpen` of crates/session: before the first sample the brakes are an opening's, and there is no cause. */
+/* `isOpen` of crates/session: no emergency without a penalty; before the first sample the brakes are an opening's, and there is
+ * no cause of either. */
 static bool is_session(const second_session *session)
 {
-    return is_sound(&session->brakes, session->train.set) && session->cause <= MOST_CAUSE
-        && (session->begun || (is_opened(&session->brakes, session->train.set) && session->cause == 0));
+    return is_sound(&session->brakes, session->train.set) && session->cause <= MOST_CAUSE && session->emergency <= MOST_CAUSE
+        && (session->emergency == 0 || session->cause != 0)
+        && (session->begun || (is_opened(&session->brakes, session->train.set) && session->cause == 0 && session->emergency == 0));
 }
 
 static void read_brakes(const uint8_t *bytes, second_brakes *k)
 {
-    k->state = held_field(bytes, 3);
-    k->hold = held_field(bytes, 4);
-    k->a = held_field(bytes, 5);
-    k->b = held_field(bytes, 6);
-    k->equalization = held_field(bytes, 7);
-    k->fall = held_field(bytes, 8);
-    k->last_front = held_field(bytes, 9);
-    k->last_rear = held_field(bytes, 10);
-    k->last_time = held_field(bytes, 11);
+    k->state = held_field(bytes, 4);
+    k->hold = held_field(bytes, 5);
+    k->a = held_field(bytes, 6);
+    k->b = held_field(bytes, 7);
+    k->equalization = held_field(bytes, 8);
+    k->fall = held_field(bytes, 9);
+    k->last_front = held_field(bytes, 10);
+    k->last_rear = held_field(bytes, 11);
+    k->last_time = held_field(bytes, 12);
 }
 
 bool expected_held(part bytes, second_session *session)
@@ -103,7 +105,8 @@ bool expected_held(part bytes, second_session *session)
     memset(session, 0, sizeof *session);
     session->open = 1;
     session->cause = held_field(at, 1);
-    session->begun = (int)held_field(at, 2);
+    session->emergency = held_field(at, 2);
+    session->begun = (int)held_field(at, 3);
     read_brakes(at, &session->brakes);
     return second_read_consist(at + HELD_CONSIST, BUONGILACH_CONSIST_BYTES, &session->train) == 0 && is_session(session);
 }
@@ -123,9 +126,9 @@ static void put_consist(const second_consist *train, uint8_t *record)
 void expected_bytes(const second_session *session, uint8_t *bytes)
 {
     const second_brakes *k = &session->brakes;
-    const int64_t fields[12] = {MARK, session->cause, session->begun, k->state, k->hold, k->a,
-                                k->b, k->equalization, k->fall, k->last_front, k->last_rear, k->last_time};
-    for (int i = 0; i < 12; i++)
+    const int64_t fields[FIELDS] = {MARK, session->cause, session->emergency, session->begun, k->state, k->hold, k->a,
+                                    k->b, k->equalization, k->fall, k->last_front, k->last_rear, k->last_time};
+    for (int i = 0; i < FIELDS; i++)
         second_put_bits(bytes, held_at[i], held_width[i], fields[i]);
     put_consist(&session->train, bytes + HELD_CONSIST);
     expected_seal(bytes);
@@ -145,13 +148,13 @@ unsigned expected_open(size_t room, part consist, uint8_t *session)
     return 0;
 }
 
-unsigned expected_sample(part session, part sample, part profile, part targets, size_t room, uint8_t *next, uint8_t *decision)
+unsigned expected_sample(part session, part sample, part profile, part targets, size_t room, uint8_t *next, uint8_t *decisions)
 {
     second_session held;
     if (!expected_held(session, &held))
         return 1;
     unsigned refusal = (unsigned)second_judge(&held, sample.bytes, sample.count, profile.bytes, profile.count, targets.bytes,
-                                              targets.count, decision, room);
+                                              targets.count, decisions, room);
     if (refusal == 0)
         expected_bytes(&held, next);
     return refusal;
@@ -260,18 +263,12 @@ unsigned expected_write_sample(const uint32_t *fields, size_t room, uint8_t *rec
 
 unsigned expected_read_decision(part decision, size_t room, uint32_t *numbers)
 {
-    const uint8_t *bytes = decision.bytes;
-    if (decision.count != BUONGILACH_DECISION_BYTES)
-        return 2;
-    if (bytes[0] != 0x44)
-        return 3;
-    static const int at[5] = {8, 32, 35, 36, 40};
-    static const int widths[5] = {24, 3, 1, 4, 24};
-    for (int i = 0; i < 5; i++)
-        numbers[i] = (uint32_t)second_bits(bytes, at[i], widths[i]);
-    uint32_t stop = numbers[4];
-    if (numbers[1] > 5 || numbers[3] > MOST_CAUSE || numbers[2] != (numbers[3] != 0)
-        || (stop > BUONGILACH_LOCATION_MOST && stop != BUONGILACH_NO_STOP))
-        return 4;
-    return room < 5 ? 12 : 0;
+    second_decision read = {0};
+    unsigned refusal = (unsigned)second_read_decision(decision.bytes, decision.count, &read);
+    if (refusal != 0)
+        return refusal;
+    const int64_t values[BUONGILACH_DECISION_NUMBERS] = {read.time, read.state, read.penalty, read.cause, read.stop};
+    for (int i = 0; i < BUONGILACH_DECISION_NUMBERS; i++)
+        numbers[i] = (uint32_t)values[i];
+    return room < BUONGILACH_DECISION_NUMBERS ? 12 : 0;
 }

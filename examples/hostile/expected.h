@@ -13,15 +13,15 @@
 /* Whether the front of the bytes is an open session's record, and that session. */
 bool expected_held(part bytes, second_session *session);
 
-/* The 40 bytes of a session, open or not. */
+/* The 41 bytes of a session, open or not. */
 void expected_bytes(const second_session *session, uint8_t *bytes);
 
-/* Puts the check word of the 36 bytes before it. */
+/* Puts the check word of the 37 bytes before it. */
 void expected_seal(uint8_t *bytes);
 
 /* Each answers the refusal or 0; the bytes that an accepted call writes are in the last arguments. */
 unsigned expected_open(size_t room, part consist, uint8_t *session);
-unsigned expected_sample(part session, part sample, part profile, part targets, size_t room, uint8_t *next, uint8_t *decision);
+unsigned expected_sample(part session, part sample, part profile, part targets, size_t room, uint8_t *next, uint8_t *decisions);
 
 /* cars, axles, weight, length, rated, application, recharge, set, offset */
 unsigned expected_write_consist(const uint32_t *fields, size_t room, uint8_t *record);

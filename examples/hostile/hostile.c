@@ -1,7 +1,8 @@
 /*
  * hostile.c - runs the C library on what a careless or hostile host may lend it: buffers of every size, sessions with each byte
  * changed to each value, two bytes changed, the check word put right after a change, random bytes everywhere; trains that run
- * away. Each answer and every lent byte is held to the second program's rules.
+ * away, and trains that run past a board, with other targets afterwards. Each answer and every lent byte is held to the second
+ * program's rules.
  *
  *     tools/cc-mounted target/hostile -DSECOND_NO_MAIN examples/hostile/[a-z]*.c second/second.c
  *     tools/launch --static target/hostile [--denormals-are-zero] [SEED [TIMES]]
@@ -24,6 +25,7 @@
 enum {
     TRIPS = 300,
     RUNAWAYS = 6,
+    BOARDS_A_STATE = 30,
     SAMPLES = 15,
     SIZED_TRIPS = 3,
     LONGEST_PROFILE = 1600
@@ -46,9 +48,9 @@ static part resized(uint8_t *room, const void *bytes, size_t count, size_t size)
 static void offer_damaged(const trip *t)
 {
     static uint8_t room[5][LENT_MOST];
-    uint8_t decision[BUONGILACH_DECISION_BYTES] = {0};
-    const void *from[5] = {t->session, t->sample, t->profile, t->targets, decision};
-    size_t counts[5] = {t->session_bytes, sizeof t->sample, t->profile_bytes, t->targets_bytes, sizeof decision};
+    uint8_t decisions[BUONGILACH_BOTH_DECISIONS_BYTES] = {0};
+    const void *from[5] = {t->session, t->sample, t->profile, t->targets, decisions};
+    size_t counts[5] = {t->session_bytes, sizeof t->sample, t->profile_bytes, t->targets_bytes, sizeof decisions};
     part parts[5];
     uint32_t wrong = made_below(32);
     for (int i = 0; i < 5; i++) {
@@ -92,15 +94,31 @@ static void run_runaways(void)
     }
 }
 
+/* Emergency called in each brake state, and what stands over other lists. */
+static void run_boards(void)
+{
+    static trip t;
+    for (unsigned state = 0; state < 6; state++)
+        for (int i = 0; i < BOARDS_A_STATE; i++) {
+            if (trip_to_state(&t, state, 2 * SLOW))
+                trip_to_board(&t);
+            for (int j = 0; j < 3; j++) {
+                trip_go(&t);
+                trip_retarget(&t);
+                offer_damaged(&t);
+            }
+        }
+}
+
 /* ---- every size of each lent buffer */
 
 static void try_sizes_of(const trip *t, int place, size_t longest)
 {
     static uint8_t room[LENT_MOST];
-    uint8_t decision[LONGEST] = {0};
+    uint8_t decisions[LONGEST] = {0};
     const part whole[5] = {part_of(t->session, t->session_bytes), part_of(t->sample, sizeof t->sample),
                            part_of(t->profile, t->profile_bytes), part_of(t->targets, t->targets_bytes),
-                           part_of(decision, BUONGILACH_DECISION_BYTES)};
+                           part_of(decisions, BUONGILACH_BOTH_DECISIONS_BYTES)};
     for (size_t size = 0; size <= longest; size++) {
         part parts[5];
         memcpy(parts, whole, sizeof parts);
@@ -143,7 +161,8 @@ static void touched(int signal_number)
     _exit(1);
 }
 
-/* Every answer of a sample call, every state, trains that run away, sealed changes of both kinds, and a denormal below zero. */
+/* Every answer of a sample call, every state and a call of emergency in it, trains that run away, sealed changes of both kinds,
+ * and a denormal below zero. */
 static bool all_seen(void)
 {
     static const int answers[] = {0, 1, 2, 3, 6, 7, 8, 9, 10, 12};
@@ -151,7 +170,7 @@ static bool all_seen(void)
         if (tried.answers[answers[i]] == 0)
             return false;
     for (int i = 0; i < 6; i++)
-        if (tried.states[i] == 0)
+        if (tried.states[i] == 0 || tried.called[i] == 0)
             return false;
     return run_away > 0 && changed.damaged_shut > 0 && changed.sealed_open > 0 && changed.sealed_shut > 0 && made_below_zero > 0;
 }
@@ -165,6 +184,9 @@ static void print_counts(void)
     for (int i = 1; i <= 12; i++)
         if (tried.answers[i] > 0)
             printf(" %d:%lu", i, tried.answers[i]);
+    printf("; emergency called");
+    for (int i = 0; i < 6; i++)
+        printf(" %d:%lu", i, tried.called[i]);
     printf("; running away %lu; denormals below zero %lu", run_away, made_below_zero);
     printf("; sessions with one byte or two changed %lu open, %lu not; with a byte changed and sealed %lu open, %lu not\n",
            changed.damaged_open, changed.damaged_shut, changed.sealed_open, changed.sealed_shut);
@@ -194,7 +216,7 @@ int main(int count, char **words)
     unsigned long long seed = count > 1 ? strtoull(words[1], NULL, 10) : 1;
     unsigned long times = count > 2 ? strtoul(words[2], NULL, 10) : 1;
     /* the longest last: a fault that another finds is found soon */
-    void (*const runs[])(void) = {run_trips, run_runaways, run_records, run_sizes, run_noise, run_flips};
+    void (*const runs[])(void) = {run_trips, run_runaways, run_boards, run_records, run_sizes, run_noise, run_flips};
     calls_make();
     try_version();
     for (unsigned long i = 0; i < times; i++) {
@@ -204,7 +226,7 @@ int main(int count, char **words)
     }
     print_counts();
     if (!all_seen())
-        fprintf(stderr, "hostile: an answer, a state, a runaway or a kind of change never occurred\n");
+        fprintf(stderr, "hostile: an answer, a state, a call of emergency, a runaway or a kind of change never occurred\n");
     if (changed.damaged_open > 0)
         fprintf(stderr, "hostile: one byte or two were changed, and the session counted as open\n");
     return tried.faults == 0 && changed.damaged_open == 0 && all_seen() ? 0 : 1;

@@ -152,6 +152,16 @@ size_t made_targets(uint8_t *records, uint32_t head)
     return 5 * count;
 }
 
+size_t made_board(uint8_t *records, uint32_t head)
+{
+    size_t place = made_below(8), count = place + 1 + made_below((uint32_t)(8 - place));
+    for (size_t i = 0; i < count; i++) {
+        second_put_bits(records + 5 * i, 0, 24, (int64_t)(head + i - place));
+        second_put_bits(records + 5 * i, 24, 16, i == place || made_once_in(2) ? 0 : made_between(0, 10000));
+    }
+    return 5 * count;
+}
+
 void made_sample(uint8_t *record, uint32_t time, uint32_t head, uint32_t speed, uint32_t front, bool present, uint32_t rear)
 {
     static const int widths[8] = {8, 24, 1, 7, 24, 32, 32, 32};

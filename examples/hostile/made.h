@@ -41,6 +41,9 @@ void made_steepest(uint8_t *consist, uint8_t *records, size_t profile_bytes);
 /* Targets before and behind the head. */
 size_t made_targets(uint8_t *records, uint32_t head);
 
+/* Targets of which one is a board right at the head, at any place in the list; those before it lie behind. */
+size_t made_board(uint8_t *records, uint32_t head);
+
 /* A sample; `rear` only where it is present. */
 void made_sample(uint8_t *record, uint32_t time, uint32_t head, uint32_t speed, uint32_t front, bool present, uint32_t rear);
 

@@ -75,7 +75,7 @@ static void try_reader_of_decisions(void)
     uint32_t numbers[8];
     made_noise(decision, sizeof decision);
     if (!made_once_in(20))
-        decision[0] = 0x44;
+        decision[0] = 0x44 + (uint8_t)made_below(2);
     if (!made_once_in(4)) {
         uint32_t cause = made_about(0, 8);
         second_put_bits(decision, 32, 3, made_about(0, 5));

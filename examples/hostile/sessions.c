@@ -21,10 +21,10 @@ changes changed;
 /* Whether the library takes these bytes for an open session's, with all else as the trip has it. */
 static bool opens(const trip *t, const uint8_t *session)
 {
-    uint8_t decision[BUONGILACH_DECISION_BYTES] = {0};
+    uint8_t decisions[BUONGILACH_BOTH_DECISIONS_BYTES] = {0};
     return try_sample(part_of(session, t->session_bytes), part_of(t->sample, sizeof t->sample),
                       part_of(t->profile, t->profile_bytes), part_of(t->targets, t->targets_bytes),
-                      part_of(decision, sizeof decision), NULL)
+                      part_of(decisions, sizeof decisions), NULL)
         != BUONGILACH_NO_SESSION;
 }
 
@@ -111,11 +111,11 @@ static void balance(second_brakes *k, int64_t set)
 static void random_opening(second_session *held)
 {
     second_brakes *k = &held->brakes;
-    int64_t *const values[] = {&k->state, &k->hold,       &k->a,         &k->b,         &k->equalization,
-                               &k->fall,  &k->last_front, &k->last_rear, &k->last_time, &held->cause};
+    int64_t *const values[] = {&k->state,      &k->hold,      &k->a,         &k->b,        &k->equalization, &k->fall,
+                               &k->last_front, &k->last_rear, &k->last_time, &held->cause, &held->emergency};
     int64_t set = held->train.set;
     *k = (second_brakes){.hold = set, .a = set};
-    held->cause = 0;
+    held->cause = held->emergency = 0;
     held->begun = made_once_in(4);
     int64_t *value = values[made_below(sizeof values / sizeof *values)];
     if (!made_once_in(8))
@@ -129,6 +129,7 @@ static void random_brakes(second_session *held)
     uint32_t set = (uint32_t)held->train.set;
     held->begun = !made_once_in(8);
     held->cause = made_about(0, 8);
+    held->emergency = made_once_in(2) ? 0 : made_about(0, 8);
     k->state = made_about(0, 5);
     k->a = made_once_in(2) ? made_about(0, set) : set - made_below(1600);
     uint32_t part_of_b = made_once_in(2) ? 1 : 4;
@@ -164,7 +165,7 @@ static void try_noise(void)
     }
     /* a session of the right length, mark and check word, mostly */
     room[0][0] = 0x42;
-    room[0][1] = 0x54;
+    room[0][1] = 0x55;
     if (!made_once_in(4))
         parts[0].count = BUONGILACH_SESSION_BYTES;
     if (!made_once_in(4))
@@ -177,14 +178,14 @@ void run_noise(void)
 {
     static trip t;
     uint8_t session[BUONGILACH_SESSION_BYTES] = {0};
-    uint8_t decision[BUONGILACH_DECISION_BYTES] = {0};
+    uint8_t decisions[BUONGILACH_BOTH_DECISIONS_BYTES] = {0};
     for (int i = 0; i < NOISES; i++) {
         if (i % 100 == 0)
             trip_begin(&t, SLOW);
         trip_go(&t);
         random_session(&t, session);
         try_sample(part_of(session, sizeof session), part_of(t.sample, sizeof t.sample), part_of(t.profile, t.profile_bytes),
-                   part_of(t.targets, t.targets_bytes), part_of(decision, sizeof decision), NULL);
+                   part_of(t.targets, t.targets_bytes), part_of(decisions, sizeof decisions), NULL);
         try_noise();
     }
 }

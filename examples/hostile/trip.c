@@ -62,11 +62,11 @@ static uint32_t next_front(uint32_t front, uint32_t elapsed)
 
 void trip_go(trip *t)
 {
-    uint8_t decision[BUONGILACH_DECISION_BYTES] = {0};
+    uint8_t decisions[BUONGILACH_BOTH_DECISIONS_BYTES] = {0};
     unsigned refusal =
         try_sample(part_of(t->session, t->session_bytes), part_of(t->sample, sizeof t->sample),
                    part_of(t->profile, t->profile_bytes), part_of(t->targets, t->targets_bytes),
-                   part_of(decision, sizeof decision), t->session);
+                   part_of(decisions, sizeof decisions), t->session);
     /* out of time, or off the profile */
     if (refusal != 0) {
         begin(t);
@@ -78,6 +78,18 @@ void trip_go(trip *t)
     t->speed = made_speed(t);
     t->head += made_below(150);
     make_sample(t);
+}
+
+void trip_to_board(trip *t)
+{
+    t->targets_bytes = made_board(t->targets, t->head);
+    t->speed += t->speed == 0;
+    make_sample(t);
+}
+
+void trip_retarget(trip *t)
+{
+    t->targets_bytes = made_targets(t->targets, t->head);
 }
 
 bool trip_to_state(trip *t, unsigned state, uint32_t fastest)

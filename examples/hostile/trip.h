@@ -34,6 +34,12 @@ void trip_run_away(trip *t);
 /* Offers the sample; accepted, the session and the sample are the next ones. */
 void trip_go(trip *t);
 
+/* The next sample is at a board that calls penalty and emergency. */
+void trip_to_board(trip *t);
+
+/* Other targets from here on. */
+void trip_retarget(trip *t);
+
 /* Goes on to a session in that brake state, a sample ready for it; false where none comes. */
 bool trip_to_state(trip *t, unsigned state, uint32_t fastest);
 

@@ -19,5 +19,5 @@ def draw(data, lines):
     panels.draw_speeds(picture, run, times)
     panels.draw_band(picture, run, times)
     panels.draw_refused(picture, run, times)
-    panels.draw_penalty(picture, run, times)
+    panels.draw_calls(picture, run, times)
     return picture.end()

@@ -9,8 +9,8 @@ STATES = (
     ("holding emergency", "#98201b"),
     ("charging", "#8fb8e6"),
 )
-HEAD, STOP, TARGET, SPEED, PENALTY, REFUSED = (
-    "#1f4e9c", "#c25b12", "#5b6b60", "#1f4e9c", "#c4161c", "#7a1fa2")
+HEAD, STOP, TARGET, SPEED, PENALTY, EMERGENCY, REFUSED = (
+    "#1f4e9c", "#c25b12", "#5b6b60", "#1f4e9c", "#c4161c", "#0c7c77", "#7a1fa2")
 INK, FAINT, PAPER = "#222222", "#e3e3e3", "#ffffff"
 
 # places in the picture, in pixels
@@ -18,3 +18,5 @@ WIDTH, HEIGHT = 980, 690
 LEFT, RIGHT = 92, 790
 KEY, WHERE, FAST, BAND, LOST, CLOCK, STATE_KEY = 52, (98, 366), (400, 530), (556, 578), 596, 612, 672
 LABEL_GAP = 17
+# above the locations: the penalty's label, and emergency's above it
+CALLS = (85, 71)

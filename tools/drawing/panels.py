@@ -1,7 +1,7 @@
-"""The parts of the picture: locations, speed, brake states, refused samples, the penalty, the keys."""
+"""The parts of the picture: locations, speed, brake states, refused samples, the calls, the keys."""
 
-from .looks import (BAND, CLOCK, FAINT, FAST, HEAD, INK, KEY, LABEL_GAP, LEFT, LOST, PENALTY, REFUSED, RIGHT, SPEED,
-                    STATE_KEY, STATES, STOP, TARGET, WHERE)
+from .looks import (BAND, CALLS, CLOCK, EMERGENCY, FAINT, FAST, HEAD, INK, KEY, LABEL_GAP, LEFT, LOST, PENALTY, REFUSED,
+                    RIGHT, SPEED, STATE_KEY, STATES, STOP, TARGET, WHERE)
 from .scale import Scale, location_range, spread
 from .svg import show
 
@@ -41,23 +41,28 @@ def draw_targets(picture, run, scale):
                      "%d more, out of sight" % missing, fill=TARGET, class_="unseen")
 
 
+def draw_stops(picture, stops, times, scale, colour, name, top):
+    """A line through the stops, with a mark near the top where there is none."""
+    stretch = []
+    for time, stop in stops + [(None, None)]:
+        if stop is not None:
+            stretch.append((times.at(time), scale.at(stop)))
+            continue
+        if stretch:
+            picture.path(stretch * 2 if len(stretch) == 1 else stretch, colour, class_=name,
+                         stroke_linecap="round")
+        stretch = []
+        if time is not None:
+            picture.add("path", d="M%s,%s l4,-8 l4,8 z" % (show(times.at(time) - 4), show(top)),
+                        fill=colour, class_="no-" + name)
+
+
 def draw_locations(picture, run, times):
     scale = Scale(*location_range(run), WHERE[1], WHERE[0])
     draw_frame(picture, scale, times, "location, ft", 6)
     draw_targets(picture, run, scale)
-    stretch = []
-    for sample in run.accepted + [None]:
-        if sample is not None and sample.stop is not None:
-            stretch.append((times.at(sample.time), scale.at(sample.stop)))
-            continue
-        if stretch:
-            picture.path(stretch * 2 if len(stretch) == 1 else stretch, STOP, class_="stop",
-                         stroke_linecap="round")
-        stretch = []
-        if sample is not None:
-            picture.add("path", d="M%s,%s l4,-8 l4,8 z" % (show(times.at(sample.time) - 4),
-                                                         show(WHERE[0] + 10)),
-                        fill=STOP, class_="no-stop")
+    draw_stops(picture, run.stops(), times, scale, STOP, "stop", WHERE[0] + 10)
+    draw_stops(picture, run.emergency_stops(), times, scale, EMERGENCY, "emergency-stop", WHERE[0] + 20)
     picture.path([(times.at(sample.time), scale.at(sample.head)) for sample in run.accepted],
                  HEAD, class_="head")
 
@@ -101,16 +106,20 @@ def draw_refused(picture, run, times):
         picture.text(LEFT - 8, LOST + 1, "refused", "end", fill=REFUSED)
 
 
-def draw_penalty(picture, run, times):
-    call = run.call()
+def draw_call(picture, times, call, name, colour, top):
+    """A line at the sample that called, down to the brake states, and its label at that height."""
     if call is None:
         return
     x = times.at(call.time)
-    picture.line(x, WHERE[0] - 8, x, BAND[1], PENALTY, 2, class_="penalty", data_time=call.time,
-                 data_cause=call.cause)
+    picture.line(x, WHERE[0] - 8, x, BAND[1], colour, 2, class_=name, data_time=call.time, data_cause=call.cause)
     anchor = "start" if x < LEFT + 120 else "end" if x > RIGHT - 120 else "middle"
-    picture.text(x, WHERE[0] - 13, "penalty at %s s, target %d" % (
-        "{:,}".format(call.time), call.cause), anchor, fill=PENALTY)
+    picture.text(x, top, "%s at %s s, target %d" % (name, "{:,}".format(call.time), call.cause), anchor, fill=colour)
+
+
+def draw_calls(picture, run, times):
+    """Emergency's line first: where both are called at once, the penalty's stands over it, and its label tells."""
+    draw_call(picture, times, run.emergency_call(), "emergency", EMERGENCY, CALLS[1])
+    draw_call(picture, times, run.call(), "penalty", PENALTY, CALLS[0])
 
 
 def draw_keys(picture, run):
@@ -119,19 +128,21 @@ def draw_keys(picture, run):
                  font_size=16)
     x = LEFT
     lines = [("head", HEAD, ""), ("predicted stop", STOP, "")]
+    if run.emergency_stops():
+        lines.append(("emergency stop", EMERGENCY, ""))
     if run.targets:
         lines.append(("target", TARGET, "7 4"))
     for name, colour, dashes in lines:
         picture.line(x, KEY - 4, x + 26, KEY - 4, colour, 2, stroke_dasharray=dashes or "none")
         picture.text(x + 32, KEY, name)
         x += 62 + 7 * len(name)
-    if any(sample.stop is None for sample in run.accepted):
+    if any(stop is None for _, stop in run.stops() + run.emergency_stops()):
         picture.add("path", d="M%d,%d l4,-8 l4,8 z" % (x, KEY), fill=STOP)
         picture.text(x + 14, KEY, "no stop within 32,768 ft")
         x += 190
     if run.refused:
         picture.cross(x + 4, KEY - 4)
-        picture.text(x + 14, KEY, "refused sample, with its number")
+        picture.text(x + 14, KEY, "refused, with its number")
     x = LEFT
     for state in sorted({sample.state for sample in run.accepted}):
         name, colour = STATES[state]

@@ -11,17 +11,28 @@ class Unfit(Exception):
     """Why there is no picture."""
 
 
-class Accepted:
-    """A sample and what was decided at it."""
+class Decision:
+    """What a line says: whether it calls, why, and the stop, None for none."""
 
-    def __init__(self, sample, decision):
+    def __init__(self, line):
+        self.time, self.state, self.called, self.cause, stop = (int(word) for word in line.split(" "))
+        self.stop = None if stop == NO_STOP else stop
+
+
+class Accepted:
+    """A sample and what was decided at it.  `emergency` is None before the penalty: nothing is predicted then."""
+
+    def __init__(self, sample, lines):
         _, self.time, _, _, self.head, speed, _, _ = feeds.unpack(sample, feeds.SAMPLE_WIDTHS)
         self.speed = float(feeds.value_of(speed))
-        time, self.state, self.penalty, self.cause, stop = decision
-        if time != self.time or self.state >= len(STATES):
+        if None in lines:
+            raise Unfit("the lines end after the first of a sample's two")
+        self.penalty, emergency = (Decision(line) for line in lines)
+        self.state, self.stop = self.penalty.state, self.penalty.stop
+        if {self.penalty.time, emergency.time} != {self.time} or emergency.state != self.state or self.state >= len(STATES):
             raise Unfit("the lines are not this feed's: %d where the sample has time %d"
-                        % (time, self.time))
-        self.stop = None if stop == NO_STOP else stop
+                        % (self.penalty.time, self.time))
+        self.emergency = emergency if self.penalty.called else None
 
 
 class Refused:
@@ -40,16 +51,17 @@ class Run:
     def __init__(self, data, lines):
         self.consist = feeds.consist_of(data)
         self.targets, samples = split(data)
-        if len(lines) != len(samples):
-            raise Unfit("%d lines for %d samples" % (len(lines), len(samples)))
+        answers = feeds.answers(lines)
+        if len(answers) != len(samples):
+            raise Unfit("there are lines for %d samples, and the feed has %d" % (len(answers), len(samples)))
         self.accepted, self.refused = [], []
         waiting = []                        # refused before the first accepted one
-        for sample, line in zip(samples, lines):
-            words = line.split(" ")
+        for sample, pair in zip(samples, answers):
+            words = pair[0].split(" ")
             if words[0] == "x":
                 waiting.append((sample, int(words[1])))
             else:
-                self.accepted.append(Accepted(sample, [int(word) for word in words]))
+                self.accepted.append(Accepted(sample, pair))
             if self.accepted:
                 last = self.accepted[-1].time
                 self.refused += [Refused(bad, number, last) for bad, number in waiting]
@@ -58,8 +70,20 @@ class Run:
             raise Unfit("no sample was accepted")
 
     def call(self):
-        """The sample that called the penalty; None without one."""
-        return next((sample for sample in self.accepted if sample.penalty), None)
+        """The decision that called the penalty; None without one."""
+        return next((sample.penalty for sample in self.accepted if sample.penalty.called), None)
+
+    def emergency_call(self):
+        """The same of emergency."""
+        return next((sample.emergency for sample in self.accepted if sample.emergency and sample.emergency.called), None)
+
+    def stops(self):
+        """(time, stop) of each accepted sample by the penalty's air."""
+        return [(sample.time, sample.stop) for sample in self.accepted]
+
+    def emergency_stops(self):
+        """The same by emergency air, from the penalty on."""
+        return [(sample.time, sample.emergency.stop) for sample in self.accepted if sample.emergency]
 
     def states(self):
         """(state, from, to) for each stretch of one brake state."""

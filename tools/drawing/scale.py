@@ -29,12 +29,12 @@ class Scale:
 def location_range(run):
     """From the lowest head to the highest stop, and the targets that are not far beyond."""
     places = [sample.head for sample in run.accepted]
-    places += [sample.stop for sample in run.accepted if sample.stop is not None]
+    places += [stop for _, stop in run.stops() + run.emergency_stops() if stop is not None]
     low, high = min(places), max(places)
-    call = run.call()
+    causes = [call.cause for call in (run.call(), run.emergency_call()) if call]
     for number, (location, _) in enumerate(run.targets, 1):
         near = low <= location <= high + (high - low) / 2 + 200
-        if near or call and call.cause == number:
+        if near or number in causes:
             low, high = min(low, location), max(high, location)
     pad = max(20, (high - low) / 20)
     return low - pad, high + pad

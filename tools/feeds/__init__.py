@@ -1,11 +1,12 @@
 """feeds - the feeds of the session program: their records, their readable text, and random ones.
 
 `tools/feed` is the command over it.  What the other tools take from it stands here; the modules
-hold one topic each: records, binary32, words and making (text to a feed), showing (a feed to text),
-chance, trains and motion (what random feeds are made of), a module for each few kinds of random
-feeds, and kinds, which knows them all.
+hold one topic each: records, answers (what is printed for them), binary32, words and making (text
+to a feed), showing (a feed to text), chance, trains and motion (what random feeds are made of), a
+module for each few kinds of random feeds, and kinds, which knows them all.
 """
 
+from .answers import answers
 from .binary32 import nearest_bits, value_of
 from .kinds import KIND_NAMES, kind_of, random_feed
 from .making import make
@@ -16,5 +17,6 @@ from .showing import show, show_reading
 from .words import BadText
 
 __all__ = ["BadText", "CONSIST", "Feed", "KIND_NAMES", "SAMPLE_BYTES", "SAMPLE_WIDTHS",
-           "TARGET_BYTES", "TARGET_WIDTHS", "consist_of", "kind_of", "make", "nearest_bits", "pack_sample", "pack_target",
-           "random_feed", "runaways", "show", "show_reading", "split", "unpack", "value_of"]
+           "TARGET_BYTES", "TARGET_WIDTHS", "answers", "consist_of", "kind_of", "make", "nearest_bits",
+           "pack_sample", "pack_target", "random_feed", "runaways", "show", "show_reading", "split",
+           "unpack", "value_of"]

@@ -90,6 +90,18 @@ def nearer(draw, approach):
         approach.end += 1 if draw.chance(90) else draw.between(0, 3)
 
 
+def at_board(draw, approach):
+    """The same, so near that the stop by emergency air passes through a board; a foot or more of offset calls the
+    penalty before."""
+    speed = draw.between(50, 900)
+    approach.train["offset"] = draw.between(1, 30)
+    approach.feed.targets = [(approach.head + draw.between(60, 200), 0)]
+    for _ in range(draw.between(150, 220)):
+        approach.sample(speed)
+        approach.time += 1
+        approach.end += 1
+
+
 def last_step(draw, approach):
     """A coasting train that stops at step 2,048 or just does not."""
     train = approach.train
@@ -117,13 +129,14 @@ def into_reach(draw, approach):
         approach.end += 1
 
 
-BRINKS = (faster, faster, nearer, nearer, last_step, into_reach)
+BRINKS = (faster, faster, nearer, nearer, last_step, into_reach, at_board, at_board)
 
 
 def brink(draw, number):
     """Targets at the very brink: the train comes up foot by foot or hundredth by
-    hundredth, so that location plus offset passes through the target; stops at
-    the walk's last step; targets at the head and at the reach."""
+    hundredth, so that location plus offset, or the stop by emergency air, passes
+    through the target; stops at the walk's last step; targets at the head and at
+    the reach."""
     approach = Approach(draw)
     BRINKS[number % len(BRINKS)](draw, approach)
     return approach.bytes()

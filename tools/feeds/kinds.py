@@ -4,6 +4,7 @@ from .brinks import brink
 from .chance import Draw
 from .damage import cut, damaged
 from .edges import edges
+from .emergencies import emergency
 from .grades import grades
 from .pipes import brakes
 from .runaways import runaway
@@ -11,14 +12,14 @@ from .trips import light, trip
 
 # Their order is part of what a seed means.
 KINDS = {"trip": trip, "brakes": brakes, "edges": edges, "light": light, "grades": grades,
-         "brink": brink, "damaged": damaged, "cut": cut, "runaway": runaway}
+         "brink": brink, "damaged": damaged, "cut": cut, "runaway": runaway, "emergency": emergency}
 KIND_NAMES = tuple(KINDS)
 
 # Where no kind is named the seeds go round this list, so that any few hundred
 # seeds in a row hold each kind in its share.
 ROUND = ("trip", "brakes", "light", "edges", "trip", "damaged", "trip", "brakes", "grades",
          "edges", "trip", "brink", "trip", "brakes", "cut", "edges", "trip", "light", "trip",
-         "brakes", "damaged", "edges", "grades", "trip", "brink", "runaway")
+         "brakes", "damaged", "edges", "grades", "trip", "brink", "runaway", "emergency")
 
 
 def kind_of(seed):

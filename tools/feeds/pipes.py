@@ -16,7 +16,8 @@ def brakes(draw, number):
     train = draw_train(draw)
     train["application"] = draw.between(1000, 30000)
     train["recharge"] = draw.between(1, 400)
-    pipe = deep_pipe(draw, train) if number % 4 == 1 else edge_pipe(draw, train)
+    deep = number % 4 == 1
+    pipe = deep_pipe(draw, train) if deep else edge_pipe(draw, train)
     feed = Feed(train)
     head = train["length"] + draw.between(0, 500)
     feed.profile = [(0, draw.between(-40, 40), 0, 0), (head + REACH, 0, 0, 0)]
@@ -27,7 +28,10 @@ def brakes(draw, number):
     for wait, front, rear in pipe:
         time += wait
         feed.samples.append(sample(draw, time, head, draw.pick(speeds), front, rear, SURE))
-    if draw.chance(30):
+    if deep:
+        # a board so near that the penalty stands soon, and emergency is predicted all the way
+        feed.targets = [(head + draw.between(0, 500), 0)]
+    elif draw.chance(30):
         feed.targets = [(head + draw.between(0, 4000), draw.between(0, 2000))]
     return feed.bytes()
 
@@ -96,9 +100,9 @@ class Pipe:
 
 def deep_pipe(draw, train):
     """A service application, the pipe then rising too slowly for a release, an
-    emergency with rear far below front, a release.  The full application, down
-    to equalization, leaves A below B after the emergency; a pipe far above a low
-    set pressure leaves nominal at 0."""
+    emergency with rear far below front, a release.  After the full application,
+    down to equalization, A combined with a low nominal is below B; a pipe far
+    above a low set pressure leaves nominal at 0."""
     pipe = Pipe(draw, train["set"], draw.pick((0, 2000, 16000, 16000)))
     which = draw.below(3)
     if which == 0:
@@ -107,7 +111,7 @@ def deep_pipe(draw, train):
     elif which == 1:
         train["application"] = draw.between(1000, 10000)
         pipe.go(2, 0, 5)
-        pipe.go(1, -train["set"] // 3, 2)
+        pipe.go(3, -1400, 1)
         pipe.go(10, 0, 5)
         pipe.go(draw.between(5, 22), 100, 5)
     else:

@@ -2,6 +2,7 @@
 
 import re
 
+from .answers import answers
 from .binary32 import value_of
 from .records import (PROFILE_BYTES, PROFILE_WIDTHS, REACH, SAMPLE_BYTES, SAMPLE_WIDTHS, Feed,
                       consist_of, split, unpack)
@@ -9,7 +10,7 @@ from .trains import SURE, draw_targets, draw_train, sample
 
 FAST = 90                          # mph
 STEEP = -400                       # hundredths of a percent
-NO_STOP = re.compile(rb"\d+ \d \d \d 16777215")
+NO_STOP = re.compile(r"\d+ \d \d \d 16777215", re.ASCII)
 
 
 # --- the kind
@@ -70,10 +71,10 @@ def grades_between(profile, first, last):
 
 
 def runaways(feed, output):
-    """How many of a feed's samples were accepted without a stop, at 90 mph or
+    """How many of a feed's samples were accepted without a stop by penalty air, at 90 mph or
     more, on -4 % or steeper all the way from the rear to the end of the reach.
     The output may be any program's, right or not."""
-    lines = output.splitlines()
+    lines = [first for first, _ in answers(output.decode("ascii", "replace").splitlines())]
     if not any(NO_STOP.fullmatch(line) for line in lines):
         return 0
     try:

@@ -43,10 +43,10 @@ linesBefore c untimely raw p t =
     ∷ (notCovered c p (sampleOf raw), NotCovered)
     ∷ []
 
--- 2 on: all of them while a session is open
+-- 2 on: all of them while a session is open; 12 "means under 16 bytes for a sample call" (02, R-5)
 abbrev pub linesOpen : Consist → (untimely : Bool) → (s p t out : List ℕ) → List Rule
 linesOpen c untimely s p t out =
     layoutRules s
     ++ linesBefore c untimely (rawIn s) p t
-    ++ (noRoom decision.size out, NoRoom)
+    ++ (noRoom decision.bothSize out, NoRoom)
     ∷ []

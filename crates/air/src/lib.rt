@@ -1,4 +1,5 @@
 // The air brakes as the rules change them: a start of applying, a start of charging, a fall.
+use brake::Brake;
 use brake::State;
 use consist::Consist;
 use reading::Reading;
@@ -6,6 +7,8 @@ ghost use mathlib.Core.Path.{_≡_};
 ghost use Prim.Native.Nat.{_+_, _*_, _^_, _≤_, _<_};
 ghost use Rattle.consist.specs.Sound as consist;
 ghost use Rattle.brake.specs.Sound.{mostB};
+ghost use Rattle.air.specs.Air.{airOf};
+ghost use Rattle.air.specs.Emergency.{inEmergency, emergencyAir};
 ghost use Rattle.air.specs.Rules.{equalizationEmergency, combined, fallEmergency, fallService, startEmergency, startService, startApplying, startCharging, dropOf, fallBy, fallInService, fallInEmergency};
 
 // What the rules change of a brake: all that is held but the last sample's readings.
@@ -51,9 +54,38 @@ fn fall_service(c: Consist) -> u16
     (2_000 * c.set as u32 / (7 * c.application)) as u16
 }
 
+// Whether an emergency is being applied or held.
+fn is_in_emergency(state: State) -> bool
+    ensures { λ t. ⌜ t ≡ inEmergency state ⌝ }
+{
+    match state {
+        State::Charged => false,
+        State::ApplyingService => false,
+        State::HoldingService => false,
+        State::ApplyingEmergency => true,
+        State::HoldingEmergency => true,
+        State::Charging => false,
+    }
+}
+
 impl Air {
+    // What the rules change of this brake.
+    pub fn of(k: Brake) -> Self
+        ensures { λ r. ⌜ r ≡ airOf k ⌝ }
+    {
+        let state = k.state;
+        Self {
+            state: state,
+            hold: k.hold,
+            a: k.a,
+            b: k.b,
+            equalization: k.equalization,
+            fall: k.fall,
+        }
+    }
+
     // Equalization is taken from A as it was, the fall from A combined.
-    fn applying_emergency(self, nominal: u16) -> Self
+    pub fn applying_emergency(self, nominal: u16) -> Self
         ensures { λ k. ⌜ k ≡ startEmergency self nominal ⌝ }
     {
         let a = combined(self.a, nominal);
@@ -144,5 +176,17 @@ impl Air {
     {
         let drop = self.drop(self.equalization, elapsed);
         self.fallen(drop, 6 * drop as u32)
+    }
+
+    // The air of an emergency from now on, as its curve starts: an emergency that is applied or held already is left as it is.
+    pub fn in_emergency(k: Brake, c: Consist) -> Self
+        ensures { λ r. ⌜ r ≡ emergencyAir c k ⌝ }
+    {
+        let held = Self::of(k);
+        let state = k.state;
+        if is_in_emergency(state) {
+            return held;
+        }
+        held.applying_emergency(reading::nominal(c.set, k.last_front, k.last_rear))
     }
 }

@@ -14,7 +14,7 @@ pub extern "C" fn buongilach_open(session: &mut [u8], consist: &[u8]) -> u8
     lent::open(session, consist)
 }
 
-// Judges a sample, with the profile and the targets lent for it, moves the session on and writes the decision to the start of `decision`.
+// Judges a sample, with the profile and the targets lent for it, moves the session on and writes the two decisions to the start of `decision`.
 #[no_mangle]
 pub extern "C" fn buongilach_sample(
     session: &mut [u8],
@@ -37,7 +37,7 @@ pub extern "C" fn buongilach_is_open(session: &[u8]) -> bool
 }
 
 // Three digits each for minor and patch.
-const VERSION: u32 = 3_000_000;
+const VERSION: u32 = 4_000_000;
 
 // The version of this library.
 #[no_mangle]

@@ -1,7 +1,7 @@
--- "Decision, 8 bytes": the layout, its reader and its writer. Definitions only.
+-- "Decision, 8 bytes": the layout, its reader and its writer, and of a sample call's two records the writer. Definitions only.
 use Prim.Native.Nat.{ℕ, _^_}
 use mathlib.Core.List.{List, [], _∷_, _++_}
-use mathlib.Core.Bool.{Bool, false, not, _||_, Bool·beq}
+use mathlib.Core.Bool.{Bool, false, not, _||_, cond, Bool·beq}
 use lib.ListN.{getD}
 use lib.Dec.{leb, ltb, eqb}
 use Rattle.bits.specs.Fields.{bit}
@@ -25,15 +25,23 @@ size = 8
 abbrev pub mark : ℕ
 mark = 0x44
 
+-- "A second decision record follows the first with mark 0x45, its penalty bit and cause now meaning emergency" (02, R-5)
+abbrev pub emergencyMark : ℕ
+emergencyMark = 0x45
+
+abbrev pub markOf : (emergency : Bool) → ℕ
+markOf emergency = cond emergency emergencyMark mark
+
 -- mark, time, brake state, penalty, cause, stopping location
 abbrev pub fieldsOf : Decision → List ℕ
-fieldsOf d = mark ∷ d .time ∷ d .state ∷ bit (d .penalty) ∷ d .cause ∷ d .stop ∷ []
+fieldsOf d = markOf (d .emergency) ∷ d .time ∷ d .state ∷ bit (d .penalty) ∷ d .cause ∷ d .stop ∷ []
 
 abbrev pub widths : List ℕ
 widths = 8 ∷ 24 ∷ 3 ∷ 1 ∷ 4 ∷ 24 ∷ []
 
 abbrev pub ofFields : List ℕ → Decision
 ofFields fs = record {
+  emergency = eqb (getD fs 0 0) emergencyMark;
   time = getD fs 1 0;
   state = getD fs 2 0;
   penalty = eqb (getD fs 3 0) 1;
@@ -48,9 +56,13 @@ decisionIn s = ofFields (fieldsIn widths s)
 unfoldable pub bytesOf : Decision → List ℕ
 bytesOf d = bytesFrom size widths (fieldsOf d)
 
+-- "3 takes 0x45 as right in a decision"
+abbrev pub isMark : ℕ → Bool
+isMark m = eqb m mark || eqb m emergencyMark
+
 -- 3: a wrong mark, of the fields that are read
 unfoldable pub wrongMark : List ℕ → Bool
-wrongMark fs = not (eqb (getD fs 0 0) mark)
+wrongMark fs = not (isMark (getD fs 0 0))
 
 -- "the penalty bit is 1 exactly when the cause is not 0"
 abbrev pub atOdds : Decision → Bool
@@ -78,7 +90,7 @@ rules d = (outOfRange d, OutOfRange) ∷ []
 
 -- the decision of an answer that refuses
 abbrev pub none : Decision
-none = record { time = 0; state = 0; penalty = false; cause = 0; stop = 0 }
+none = record { emergency = false; time = 0; state = 0; penalty = false; cause = 0; stop = 0 }
 
 -- the lowest refusal, or the decision
 abbrev pub answer : Verdict → Decision → Verdict × Decision
@@ -100,3 +112,19 @@ writeRules d out = rules d ++ (noRoom size out, NoRoom) ∷ []
 
 unfoldable pub writeDecision : Decision → List ℕ → Verdict × List ℕ
 writeDecision d out = written (lowest (writeRules d out)) (bytesOf d) out
+
+-- ---- both records of a sample call
+
+-- "A second decision record follows the first"
+abbrev pub bothSize : ℕ
+bothSize = 16
+
+unfoldable pub bothBytes : Decision → Decision → List ℕ
+bothBytes d e = bytesOf d ++ bytesOf e
+
+-- "12 now means under 16 bytes for a sample call"
+abbrev pub bothRules : Decision → Decision → List ℕ → List Rule
+bothRules d e out = rules d ++ rules e ++ (noRoom bothSize out, NoRoom) ∷ []
+
+unfoldable pub writeBoth : Decision → Decision → List ℕ → Verdict × List ℕ
+writeBoth d e out = written (lowest (bothRules d e out)) (bothBytes d e) out

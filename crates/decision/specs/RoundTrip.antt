@@ -6,7 +6,7 @@ use lib.ListN.{length, take, drop}
 use Rattle.bits.specs.Bytes.{Bytes}
 use Rattle.refusal.specs.declared.Verdict.the-variants.{Accepted}
 use Rattle.decision.specs.declared.Decision.{Decision}
-use Rattle.decision.specs.Decision.{size, answer, readDecision, writeDecision}
+use Rattle.decision.specs.Decision.{size, answer, readDecision, writeDecision, writeBoth}
 
 unfoldable pub WrittenReadsBack : Type 0
 WrittenReadsBack =
@@ -15,3 +15,9 @@ WrittenReadsBack =
 unfoldable pub AcceptedWritesBack : Type 0
 AcceptedWritesBack =
     (s out : List ℕ) → Bytes s → size ≤ length out → readDecision s .0 ≡ Accepted → writeDecision (readDecision s .1) out ≡ (Accepted, s ++ drop size out)
+
+-- both records of a sample call, each at its place
+unfoldable pub BothReadBack : Type 0
+BothReadBack =
+    (d e : Decision) (out : List ℕ) → writeBoth d e out .0 ≡ Accepted → let after = writeBoth d e out .1 in
+    (readDecision (take size after) ≡ answer Accepted d) × (readDecision (take size (drop size after)) ≡ answer Accepted e)

@@ -12,9 +12,8 @@ use Rattle.refusal.specs.declared.Verdict.{Verdict}
 use Rattle.refusal.specs.declared.Verdict.the-variants.{Accepted, Refused}
 use Rattle.refusal.proofs.Order.{given, passed}
 use Rattle.refusal.proofs.Numbers.{one-first}
-use Rattle.decision.specs.Decision as decision
 use Rattle.session.specs.declared.Session.{Session}
-use Rattle.sampling.specs.Sample.{sampleIn, notOpen, rules, sessionAfter, decisionOf, sampleCall}
+use Rattle.sampling.specs.Sample.{sampleIn, notOpen, rules, sessionAfter, decisionsOf, sampleCall}
 use Rattle.held.specs.Held.{recordAt, sessionIn, bytesOf, noSession, answer, readSession}
 use Rattle.held.proofs.Answers.{held-open}
 use Rattle.lent.specs.Lent.{sampleRules, Sampled, sampleBytes}
@@ -32,10 +31,10 @@ module _ (b s p t out : List ℕ) where
   abbrev x : Session
   x = sessionIn (recordAt b)
 
-  -- the number, the session's bytes and the decision's, by the verdict
+  -- the number, the session's bytes and the decisions', by the verdict
   abbrev pub leaves : Verdict → Sampled
   leaves v =
-      (numberOfVerdict v, written v (bytesOf (sessionAfter x (sampleIn s) p t)) b .1, written v (decision.bytesOf (decisionOf x (sampleIn s) p t)) out .1)
+      (numberOfVerdict v, written v (bytesOf (sessionAfter x (sampleIn s) p t)) b .1, written v (decisionsOf x (sampleIn s) p t) out .1)
 
   -- where an open session's record stands, the first line of the session's own table does not apply: its lowest is that of the bytes
   same-lowest : noSession (recordAt b) ≡ false → lowest (rules x s p t out) ≡ lowest (sampleRules b s p t out)

@@ -1,6 +1,6 @@
 -- A machine that does what is defined moves the session that its states hold as the definition does. Assumes nothing.
 use mathlib.Core.Path.{_≡_, refl, sym, ap, subst, _∙_}
-use mathlib.Core.Bool.{true}
+use mathlib.Core.Bool.{Bool, true}
 use mathlib.Core.List.{List, [], _∷_}
 use Rattle.refusal.specs.Lowest.{lowest}
 use Rattle.refusal.specs.Steps.{kept}
@@ -11,10 +11,9 @@ use Rattle.refusal.specs.declared.Verdict.{Verdict}
 use Rattle.refusal.specs.declared.Verdict.the-variants.{Accepted, Refused}
 use Rattle.refusal.proofs.Order.{given}
 use Rattle.decision.specs.declared.Decision.{Decision}
-use Rattle.decision.specs.Decision.{bytesOf}
 use Rattle.session.specs.declared.Session.{Session}
 use Rattle.session.specs.Session.{isOpen, noneOpen}
-use Rattle.sampling.specs.Sample.{sampleIn, sessionAfter, decisionOf, rules, sampleCall}
+use Rattle.sampling.specs.Sample.{sampleIn, sessionAfter, decisionsOf, rules, sampleCall}
 use Rattle.sampling.specs.Laws.{Lent, OpensOpen, StaysOpen, OpenUnchanged, SampleUnchanged}
 use Rattle.sampling.proofs.Laws.{opens-open, stays-open, open-unchanged, sample-unchanged}
 use Rattle.demands.specs.Machine.{Call, opening, sampling, Lends, LendsEach, Reply, Machine, call, after, ours, Holding, Holds, Does, Decides}
@@ -39,7 +38,7 @@ sampled x l v =
     let m = sampleIn (l .sample) in
     let p = l .profile in
     let t = l .targets in
-    record { told = v; state = kept v (sessionAfter x m p t) x; out = written v (bytesOf (decisionOf x m p t)) (l .out) .1 }
+    record { told = v; state = kept v (sessionAfter x m p t) x; out = written v (decisionsOf x m p t) (l .out) .1 }
 
 pub sampled-is : (x : Session) (l : Lent) (v : Verdict) → lowest (rules x (l .sample) (l .profile) (l .targets) (l .out)) ≡ v
     → call ours x (sampling l) ≡ sampled x l v
@@ -79,8 +78,8 @@ module _ {S T : Type 0} (h : Holding S T) (w : Lawful h) where
     after-holds z x o (k ∷ ks) b = after-holds (call m z k .state) (call ours x k .state) (next-holds z x o k (b .0)) ks (b .1)
 
     -- it decides what the definition does
-    pub decides : (z : S) (x : Session) → Holds h z x → (l : Lent) → Lends (sampling l) → (d : Decision) → Decides h (call m z (sampling l)) d
-        → Decides byValue (call ours x (sampling l)) d
-    decides z x o l b d e =
-        let f = subst (λ (r : Reply S T). Decides h r d) (does z x o (sampling l) b) e in
+    pub decides : (z : S) (x : Session) → Holds h z x → (l : Lent) → Lends (sampling l) → (e : Bool) (d : Decision) → Decides h e (call m z (sampling l)) d
+        → Decides byValue e (call ours x (sampling l)) d
+    decides z x o l b e d k =
+        let f = subst (λ (r : Reply S T). Decides h e r d) (does z x o (sampling l) b) k in
         record { accepted = w .apart _ Accepted (f .accepted); reads = f .reads }

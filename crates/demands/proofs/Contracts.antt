@@ -51,7 +51,7 @@ open-fits : (x : Session) → isOpen x ≡ true → FitsWords x
 open-fits x h =
     let o = opened x h in
     let k = o .brake in
-    omega (arith, number-most (x .brake .state), bit-fits (x .brake .sampled), o .cause, k .a, k .b, k .equalization, k .fall, k .hold, k .front, k .rear, k .time, o .consist .ranged)
+    omega (arith, number-most (x .brake .state), bit-fits (x .brake .sampled), o .cause, o .emergency, k .a, k .b, k .equalization, k .fall, k .hold, k .front, k .rear, k .time, o .consist .ranged)
 
 pub value-lawful : Lawful byValue
 value-lawful = record { fits = λ z x f o. open-fits x o; reads = λ z x o. refl; again = λ z x y. refl; apart = λ v w e. e }

@@ -3,6 +3,7 @@ use Rattle.demands.specs.Machine.{Machine, Holding, Unopened, Does}
 use Rattle.demands.specs.Demands.{Demands, Program, Library}
 use Rattle.demands.proofs.Carried.{Lawful}
 use Rattle.demands.proofs.Machine.{demand-2, demand-3}
+use Rattle.demands.proofs.Emergency.{emergency-3}
 use Rattle.demands.proofs.Useless.{not-useless}
 use Rattle.demands.proofs.Contracts.{value-lawful, program-meets, program-begins, program-does, bytes-lawful, library-meets, library-does}
 
@@ -14,6 +15,7 @@ demands h Meets ours w meets begins does = record {
   does = does;
   demand-2 = λ m met. demand-2 h w m (does m met) (begins m met);
   demand-3 = λ m m′ met met′. demand-3 h w m m′ (does m met) (does m′ met′);
+  emergency-3 = λ m m′ met met′. emergency-3 h w m m′ (does m met) (does m′ met′);
   not-useless = λ m met. not-useless h w m (does m met) (begins m met) (demand-2 h w m (does m met) (begins m met));
 }
 

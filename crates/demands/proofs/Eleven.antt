@@ -12,19 +12,21 @@ use Rattle.refusal.specs.Number.{numberOf, numberOfVerdict}
 use Rattle.refusal.specs.Lowest.{Rule, lowest}
 use Rattle.refusal.specs.Written.{noRoom}
 use Rattle.refusal.proofs.Order.{T-left, T-right, allAbove, given, passed, append-given, append-passed, append-accepted}
-use Rattle.decision.specs.Decision.{size}
+use Rattle.decision.specs.Decision.{bothSize}
 use Rattle.track.specs.Track.{layOf}
 use Rattle.step.proofs.Gain.{gentle-no-steeper}
-use Rattle.laws.specs.Tested.{answered, TestIdle}
+use Rattle.walk.specs.Walk.{arrivalFor}
+use Rattle.laws.specs.Tested.{answered, testedFor, TestIdle}
 use Rattle.laws.proofs.Tested.{test-idle}
 use Rattle.judge.specs.Approach.{Approach, force, ground, arrivalOf}
+use Rattle.judge.specs.Emergency.{emergencyForce, emergencyArrival}
 use Rattle.prediction.proofs.Ready.{walkable}
 use Rattle.session.specs.declared.Session.{Session}
-use Rattle.sampling.specs.Sample.{sampleIn, brakeAfter, approach, sampleCall}
+use Rattle.sampling.specs.Sample.{sampleIn, brakeAfter, approach, emergency, sampleCall}
 use Rattle.sampling.specs.Steps.{rulesBefore}
 use Rattle.sampling.proofs.Accepted.{predictable}
 use Rattle.sampling.proofs.Admitted.{ready}
-use Rattle.demands.specs.Eleven.{Line, numbered, firstLine, tested, isRefused, Eleven}
+use Rattle.demands.specs.Eleven.{Line, numbered, firstLine, tested, testedEmergency, isRefused, Eleven}
 
 -- ---- the first line that applies is the lowest refusal
 
@@ -59,17 +61,29 @@ module _ (x : Session) (s p t : List ℕ) where
   abbrev made : Approach
   made = approach x (sampleIn s) p
 
-  idle : lowest (rulesBefore x s p t) ≡ Accepted → (u : ℕ) → tested made u ≡ answered (arrivalOf made u)
-  unfolding TestIdle arrivalOf
-  idle h u =
-      let m = sampleIn s in
-      let w = walkable (x .consist) (brakeAfter x m) m p (predictable x m p (ready x s p t h)) in
-      test-idle (x .consist) (force made) (ground made) (m .head) (m .speed) u (w .limited) (gentle-no-steeper (layOf p) (x .consist .length) (w .track))
-      (w .speed)
+  module _ (h : lowest (rulesBefore x s p t) ≡ Accepted) where
+    -- over the sample's track, whatever the force
+    test-finds-nothing : (force : ℕ → ℕ) (u : ℕ) →
+        testedFor (x .consist) force (ground made) (sampleIn s .head) (sampleIn s .speed) u
+        ≡ answered (arrivalFor (x .consist) force (ground made) (sampleIn s .head) (sampleIn s .speed) u)
+    unfolding TestIdle
+    test-finds-nothing force u =
+        let m = sampleIn s in
+        let w = walkable (x .consist) (brakeAfter x m) m p (predictable x m p (ready x s p t h)) in
+        test-idle (x .consist) force (ground made) (m .head) (m .speed) u (w .limited) (gentle-no-steeper (layOf p) (x .consist .length) (w .track))
+        (w .speed)
+
+    idle : (u : ℕ) → tested made u ≡ answered (arrivalOf made u)
+    unfolding arrivalOf
+    idle u = test-finds-nothing (force made) u
+
+    emergency-idle : testedEmergency (emergency x (sampleIn s) p) ≡ answered (emergencyArrival (emergency x (sampleIn s) p))
+    unfolding emergencyArrival
+    emergency-idle = test-finds-nothing (emergencyForce (emergency x (sampleIn s) p)) 0
 
   module _ (out : List ℕ) where
     abbrev room : List Rule
-    room = (noRoom size out, NoRoom) ∷ []
+    room = (noRoom bothSize out, NoRoom) ∷ []
 
     -- the lines from 11 on are those of the room
     rest-is : (b full : Bool) → b ≡ false → firstLine ((b, 11) ∷ (full, 12) ∷ []) ≡ numberOfVerdict (lowest ((full, NoRoom) ∷ []))
@@ -78,9 +92,9 @@ module _ (x : Session) (s p t : List ℕ) where
     rest-is b false e = ap (λ (c : Bool). cond c 11 0) e
 
     answers-by : (v : Verdict) → lowest (rulesBefore x s p t) ≡ v →
-        firstBy v (firstLine ((isRefused (tested made 0), 11) ∷ (noRoom size out, 12) ∷ [])) ≡ numberOfVerdict (lowest (rulesBefore x s p t ++ room))
+        firstBy v (firstLine ((isRefused (tested made 0), 11) ∷ (noRoom bothSize out, 12) ∷ [])) ≡ numberOfVerdict (lowest (rulesBefore x s p t ++ room))
     answers-by Accepted h =
-        rest-is (isRefused (tested made 0)) (noRoom size out) (ap isRefused (idle h 0))
+        rest-is (isRefused (tested made 0)) (noRoom bothSize out) (ap isRefused (idle h 0))
         ∙ ap numberOfVerdict (sym (append-passed (rulesBefore x s p t) room h))
     answers-by (Refused r) h = ap numberOfVerdict (sym (append-given (rulesBefore x s p t) room r tt h))
 
@@ -91,4 +105,5 @@ eleven x s p t out = record {
       first-is (rulesBefore x s p t) _ tt
       ∙ answers-by x s p t out (lowest (rulesBefore x s p t)) refl;
   arrivals = λ h u. idle x s p t (append-accepted (rulesBefore x s p t) _ h) u;
+  emergency-arrival = λ h. emergency-idle x s p t (append-accepted (rulesBefore x s p t) _ h);
 }

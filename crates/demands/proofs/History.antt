@@ -1,10 +1,9 @@
 -- The sessions of the calls' definitions hold what the paper says of the history, call by call. Assumes nothing.
 use mathlib.Core.Path.{_≡_, refl, sym, ap, subst, _∙_}
-use mathlib.Core.Bool.{true, not, cond}
+use mathlib.Core.Bool.{true, false, not}
 use mathlib.Core.List.{List, [], _∷_, _++_}
 use Prim.Native.Nat.{ℕ, zero, suc, _<_}
 use native.Mathlib.Omega.{arith}
-use lib.Dec.{eqb}
 use borrow.Author.Tests.{ne-eqb}
 use Rattle.refusal.specs.Lowest.{lowest}
 use Rattle.refusal.specs.Steps.{kept}
@@ -15,39 +14,43 @@ use Rattle.refusal.proofs.Order.{passed}
 use Rattle.consist.specs.declared.Consist.{Consist}
 use Rattle.consist.specs.Consist.{consistIn, readRules, readConsist, answer}
 use Rattle.sample.specs.declared.Sample.{Sample}
-use Rattle.decision.specs.Decision.{bytesOf}
+use Rattle.decision.specs.Decision.{bothBytes}
+use Rattle.judge.specs.Judge.{standing}
+use Rattle.judge.specs.Emergency.{emergencyStop, emergencyCallOf}
+use Rattle.prediction.specs.Prediction.{behind}
 use Rattle.update.specs.Rules.{updateOf}
 use Rattle.admission.specs.Table.{wrongTime}
 use Rattle.session.specs.declared.Session.{Session}
 use Rattle.session.specs.declared.Answer.{Answer}
 use Rattle.session.specs.Session.{isOpen}
 use Rattle.session.specs.Open.{openOf, openedBy}
-use Rattle.sampling.specs.Sample.{sampleIn, causeAfter, decisionOf, rules}
+use Rattle.sampling.specs.Sample.{sampleIn, prediction, causeAfter, emergencyAfter, decisionOf, emergencyDecisionOf, rules}
 use Rattle.sampling.specs.Laws.{Lent}
+use Rattle.sampling.proofs.Laws.{standing-stays}
 use Rattle.demands.specs.Machine.{Call, opening, sampling, Reply, call, ours}
-use Rattle.demands.specs.History.{brakes, callsIn, firstCall, causeIn, decisionAt, wrongTimeAfter, rulesAt, Standing, nothing, since, verdictAt, next, outAt, sessionAt}
+use Rattle.demands.specs.History.{brakes, callsIn, firstCall, causeIn, emergencyAt, emergencyCallsIn, emergencyIn, stopAt, decisionAt, wrongTimeAfter, rulesAt, Standing, nothing, since, verdictAt, next, outAt, sessionAt}
 use Rattle.demands.specs.Demand2.{CauseStays}
 use Rattle.demands.proofs.Carried.{accepted-open, sampled, sampled-is, none-refuses}
 
 -- ---- the first call of a history
 
-pub cause-after : (before call : ℕ) → 0 < before → cond (eqb before 0) call before ≡ before
-cause-after before call h = let n : before ≡ 0 → ⊥ = λ e. omega arith in rw (ne-eqb before 0 n)
-
 -- a later call counts where there is none before it
-first-of-both : (ns : List ℕ) (n : ℕ) → firstCall (ns ++ n ∷ []) ≡ cond (eqb (firstCall ns) 0) n (firstCall ns)
-unfolding firstCall
+first-of-both : (ns : List ℕ) (n : ℕ) → firstCall (ns ++ n ∷ []) ≡ standing (firstCall ns) n
+unfolding firstCall standing
 first-of-both [] zero = refl
-first-of-both [] (suc n) = cause-after (suc n) 0 (omega arith)
+first-of-both [] (suc n) = standing-stays (suc n) 0 (omega arith)
 first-of-both (zero ∷ ns) n = first-of-both ns n
-first-of-both (suc k ∷ ns) n = let some : suc k ≡ 0 → ⊥ = λ e. omega arith in rw (ne-eqb (suc k) 0 some) (sym (cause-after (suc k) n (omega arith)))
+first-of-both (suc k ∷ ns) n = let some : suc k ≡ 0 → ⊥ = λ e. omega arith in rw (ne-eqb (suc k) 0 some) (sym (standing-stays (suc k) n (omega arith)))
+
+-- and so, once there is one, none
+first-stays : (ns : List ℕ) (n first : ℕ) → 0 < first → firstCall ns ≡ first → firstCall (ns ++ n ∷ []) ≡ first
+first-stays ns n first h e = first-of-both ns n ∙ standing-stays (firstCall ns) n (omega arith) ∙ e
 
 pub cause-stays : CauseStays
-unfolding CauseStays callsIn
-cause-stays c h [] s = refl
-cause-stays c h (l ∷ later) s =
-    let e = cause-stays c h later s in
-    first-of-both (callsIn c (later ++ h)) _ ∙ cause-after (causeIn c (later ++ h)) _ (omega arith) ∙ e
+unfolding CauseStays callsIn emergencyCallsIn
+cause-stays e c h [] s = refl
+cause-stays false c h (l ∷ later) s = first-stays (callsIn c (later ++ h)) _ (causeIn c h) s (cause-stays false c h later s)
+cause-stays true c h (l ∷ later) s = first-stays (emergencyCallsIn c (later ++ h)) _ (emergencyIn c h) s (cause-stays true c h later s)
 
 -- ---- one call of the definition
 
@@ -58,7 +61,7 @@ Open (since c h) = isOpen (sessionAt (since c h)) ≡ true
 
 opened-is : (st : Standing) (s : List ℕ) (v : Verdict) →
     openedBy (sessionAt st) (answer v (consistIn s)) ≡ record { session = sessionAt (kept v (since (consistIn s) []) st); verdict = v }
-unfolding brakes callsIn firstCall
+unfolding brakes callsIn emergencyCallsIn firstCall
 opened-is st s Accepted = refl
 opened-is st s (Refused r) = refl
 
@@ -78,18 +81,33 @@ module _ (c : Consist) (h : List Lent) (l : Lent) where
   unfolding brakes callsIn causeAfter
   cause-is = sym (first-of-both (callsIn c h) _)
 
-  pub decision-is : decisionOf x m (l .profile) (l .targets) ≡ decisionAt c h l
+  -- what is called for, from the sample that calls the penalty on
+  emergency-is : emergencyAfter x m (l .profile) (l .targets) ≡ emergencyIn c (l ∷ h)
+  unfolding brakes emergencyCallsIn causeAfter emergencyAfter
+  emergency-is =
+      ap (λ (n : ℕ). standing (emergencyIn c h) (behind n (emergencyCallOf (emergencyAt c h l) (l .targets)))) cause-is
+      ∙ sym (first-of-both (emergencyCallsIn c h) _)
+
+  pub decision-is : decisionOf x m (l .profile) (l .targets) ≡ decisionAt false c h l
   unfolding brakes
   decision-is = rw cause-is
+
+  emergency-stop-is : prediction x m (l .profile) (l .targets) .«emergency_stop» ≡ stopAt true c h l
+  unfolding brakes causeAfter
+  emergency-stop-is = ap (λ (n : ℕ). behind n (emergencyStop (emergencyAt c h l))) cause-is
+
+  pub emergency-decision-is : emergencyDecisionOf x m (l .profile) (l .targets) ≡ decisionAt true c h l
+  unfolding brakes
+  emergency-decision-is = rw (emergency-is, emergency-stop-is)
 
   verdict-is : isOpen x ≡ true → lowest (rules x (l .sample) (l .profile) (l .targets) (l .out)) ≡ lowest (rulesAt c h l)
   unfolding brakes
   verdict-is o = passed _ _ _ (ap not o) ∙ rw (time-is c h m)
 
   answer-is : (v : Verdict) →
-      sampled x l v ≡ record { told = v; state = sessionAt (kept v (since c (l ∷ h)) (since c h)); out = written v (bytesOf (decisionAt c h l)) (l .out) .1 }
+      sampled x l v ≡ record { told = v; state = sessionAt (kept v (since c (l ∷ h)) (since c h)); out = written v (bothBytes (decisionAt false c h l) (decisionAt true c h l)) (l .out) .1 }
   unfolding brakes
-  answer-is Accepted = rw cause-is
+  answer-is Accepted = rw (cause-is, emergency-is, emergency-stop-is)
   answer-is (Refused r) = refl
 
 pub reply-is : (st : Standing) → Open st → (k : Call) → call ours (sessionAt st) k ≡ record { told = verdictAt st k; state = sessionAt (next st k); out = outAt st k }

@@ -8,6 +8,7 @@ pub mod Carried
 pub mod Contracts
 pub mod History
 pub mod Machine
+pub mod Emergency
 pub mod Locations
 pub mod RoundTrips
 pub mod Figures

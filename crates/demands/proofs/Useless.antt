@@ -1,6 +1,6 @@
 -- The useless programs do not meet the contracts: each answers the case of document 01 otherwise. Assumes nothing.
 use mathlib.Core.Path.{_≡_, refl, sym, ap, _∙_}
-use mathlib.Core.Bool.{Bool, true, _&&_}
+use mathlib.Core.Bool.{Bool, true, false, _&&_}
 use mathlib.Core.List.{List, [], _∷_, map}
 use Prim.Native.Nat.{ℕ, zero, suc, _^_}
 use native.Mathlib.Omega.{arith}
@@ -8,6 +8,7 @@ use lib.Dec.{ltb}
 use lib.ListN.{length, getD, take, drop}
 use borrow.Author.Tests.{ltb-true}
 use borrow.Fn.World.{ArgsD}
+use denote.Ref.{RefT}
 use Rattle.bits.specs.Bytes.{Bytes}
 use Rattle.bits.proofs.Ranges.{and-true-left, and-true-right}
 use Rattle.refusal.specs.declared.Refusal.the-variants.{WrongTime}
@@ -29,7 +30,7 @@ use Rattle.sampling.proofs.Accepted.{predictable}
 use Rattle.sampling.proofs.Admitted.{ready}
 use Rattle.sampling.proofs.Computing.{computing}
 use Rattle.demands.specs.Machine.{Call, opening, sampling, Slice, Lends, LendsEach, Reply, Machine, call, replies, after, ours, Holding, Unopened, Does, Accepts, Decides}
-use Rattle.demands.specs.History.{brakes, callsIn, firstCall, nothing, paperFrom}
+use Rattle.demands.specs.History.{brakes, callsIn, emergencyCallsIn, firstCall, nothing, paperFrom}
 use Rattle.demands.specs.Demand2.{telling, Demand-2}
 use Rattle.demands.specs.Case as case
 use Rattle.demands.specs.Useless.{stepAgain, walkAgain, stopAgain, stopBy, IsRefused, said, NotUseless, Walker, MeetsPredict, WalkRepeatsStep, WalkNotUseless}
@@ -79,19 +80,26 @@ abbrev second : Session → Approach
 second x = approach x (sampleIn (nth 1 .sample)) (nth 1 .profile)
 
 abbrev decision : Decision
-decision = record { time = 1; state = 0; penalty = true; cause = 1; stop = 5032 }
+decision = record { emergency = false; time = 1; state = 0; penalty = true; cause = 1; stop = 5032 }
+
+-- what is written to each sample: both records
+abbrev firstOut : List ℕ
+firstOut = 68 ∷ 0 ∷ 0 ∷ 0 ∷ 0 ∷ 0 ∷ 19 ∷ 136 ∷ 69 ∷ 0 ∷ 0 ∷ 0 ∷ 0 ∷ 0 ∷ 0 ∷ 0 ∷ []
+
+abbrev secondOut : List ℕ
+secondOut = 68 ∷ 0 ∷ 0 ∷ 1 ∷ 17 ∷ 0 ∷ 19 ∷ 168 ∷ 69 ∷ 0 ∷ 0 ∷ 1 ∷ 0 ∷ 0 ∷ 19 ∷ 168 ∷ []
 
 -- the lines `0 0 0 0 5000` and `1 0 1 1 5032`; 9 for the first sample again; the stop, and that by the repeated step
 record Case : Type 0 where
-  honest : paperFrom nothing (run 1) ≡ (Accepted, []) ∷ (Accepted, 68 ∷ 0 ∷ 0 ∷ 0 ∷ 0 ∷ 0 ∷ 19 ∷ 136 ∷ []) ∷ (Accepted, 68 ∷ 0 ∷ 0 ∷ 1 ∷ 17 ∷ 0 ∷ 19 ∷ 168 ∷ []) ∷ []
-  again : paperFrom nothing (run 0) ≡ (Accepted, []) ∷ (Accepted, 68 ∷ 0 ∷ 0 ∷ 0 ∷ 0 ∷ 0 ∷ 19 ∷ 136 ∷ []) ∷ (Refused WrongTime, case.out) ∷ []
-  read : readDecision (68 ∷ 0 ∷ 0 ∷ 1 ∷ 17 ∷ 0 ∷ 19 ∷ 168 ∷ []) ≡ (Accepted, decision)
+  honest : paperFrom nothing (run 1) ≡ (Accepted, []) ∷ (Accepted, firstOut) ∷ (Accepted, secondOut) ∷ []
+  again : paperFrom nothing (run 0) ≡ (Accepted, []) ∷ (Accepted, firstOut) ∷ (Refused WrongTime, case.out) ∷ []
+  read : readDecision (take size secondOut) ≡ (Accepted, decision)
   accepted : call ours standing (sampling (nth 1)) .told ≡ Accepted
   stop : predictionOf (second standing) (speedsIn (nth 1 .targets) most) .stop ≡ 5032
   stop-again : stopBy (second standing) ≡ 5048
 
 computed : Case
-unfolding computing stepAgain walkAgain stopAgain brakes callsIn firstCall paperFrom
+unfolding computing stepAgain walkAgain stopAgain brakes callsIn emergencyCallsIn firstCall paperFrom
 computed = record { honest = refl; again = refl; read = refl; accepted = refl; stop = refl; stop-again = refl }
 
 -- ---- a machine
@@ -116,7 +124,7 @@ module _ {S T : Type 0} (h : Holding S T) (w : Lawful h) (m : Machine S T) (does
   -- the reply to a call of the honest run, by its place
   honest-at : {A : Type 0} (f : T × List ℕ → A) (i : ℕ) →
       f (getD ((call m (m .none) (opening case.consist) .told, []) ∷ (one .told, one .out) ∷ (two 1 .told, two 1 .out) ∷ []) i (h .tell Accepted, []))
-      ≡ f (getD (map (telling h) ((Accepted, []) ∷ (Accepted, 68 ∷ 0 ∷ 0 ∷ 0 ∷ 0 ∷ 0 ∷ 19 ∷ 136 ∷ []) ∷ (Accepted, 68 ∷ 0 ∷ 0 ∷ 1 ∷ 17 ∷ 0 ∷ 19 ∷ 168 ∷ []) ∷ [])) i (h .tell Accepted, []))
+      ≡ f (getD (map (telling h) ((Accepted, []) ∷ (Accepted, firstOut) ∷ (Accepted, secondOut) ∷ [])) i (h .tell Accepted, []))
   honest-at f i = ap (λ (l : List (T × List ℕ)). f (getD l i (h .tell Accepted, []))) (replied 1 _ (computed .honest))
 
   not-both : (r : Reply S T) → IsRefused h m r → Accepts h r → ⊥
@@ -148,7 +156,7 @@ module _ {S T : Type 0} (h : Holding S T) (w : Lawful h) (m : Machine S T) (does
             omega arith;
         repeats-step = λ k.
             let held = after-holds h w m does (m .none) noneOpen u two-before bs′ .1 in
-            let decides : Decides h (two 1) decision = record { accepted = two-accepted; reads = honest-at (λ r. readDecision (take size (r .1))) 2 ∙ computed .read } in
+            let decides : Decides h false (two 1) decision = record { accepted = two-accepted; reads = honest-at (λ r. readDecision (take size (r .1))) 2 ∙ computed .read } in
             let z : _≡_ {A = ℕ} 5032 5048 =
             k two-before (nth 1) bs′ (lent 1) decision decides ∙ ap (λ (x : Session). stopBy (second x)) held ∙ computed .stop-again in
             omega arith;
@@ -156,6 +164,10 @@ module _ {S T : Type 0} (h : Holding S T) (w : Lawful h) (m : Machine S T) (does
       }
 
 -- ---- the walk by itself
+
+-- lent; where it lies does not matter
+abbrev lend : {A : Type 0} → A → RefT A
+lend a = record { ptr = (0, 0); name = 0; now = a }
 
 walk-repeats-step : (w : Walker) → MeetsPredict w → WalkRepeatsStep w → ⊥
 unfolding predictionOf
@@ -167,8 +179,10 @@ walk-repeats-step w meets k =
     let asked = walkable (x .consist) (brakeAfter standing m) m (l .profile) (predictable standing m (l .profile) admitted) in
     let curve = penaltyCurve (x .consist) (x .a) (x .b) in
     let speeds = speedsIn (l .targets) most in
-    let given : ArgsD signature tt = (x .consist, (curve, (x .track, (x .head, (x .speed, (speeds, tt)))))) in
-    let found = ap (λ (f : Prediction). f .stop) (meets tt given given asked) in
+    let r = x .track in
+    let given : ArgsD signature ([], tt) =
+    (x .consist, (curve, (r .count, (lend (r .starts), (lend (r .grades), (lend (r .curvatures), (x .head, (x .speed, (speeds, tt))))))))) in
+    let found = ap (λ (f : Prediction). f .stop) (meets ([], tt) given given asked) in
     let z : _≡_ {A = ℕ} 5032 5048 =
     sym (computed .stop) ∙ sym found ∙ k (x .consist) curve (x .track) (x .head) (x .speed) speeds asked ∙ computed .stop-again in
     omega arith

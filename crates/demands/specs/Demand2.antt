@@ -1,7 +1,8 @@
 -- Demand 2: "Air brake state, predicted locations and decision equal, to the last unit, the rules of document 01. .. Once commanded, a penalty
--- stands until the session is opened anew." Statements; proofs/{Machine,History,Locations}.antt prove them.
+-- stands until the session is opened anew." And of document 02's R-5: the second record equals its rules, and emergency "stays called".
+-- Statements; proofs/{Machine,History,Locations}.antt prove them.
 use mathlib.Core.Path.{_≡_}
-use mathlib.Core.Bool.{Bool, true}
+use mathlib.Core.Bool.{Bool, true, false}
 use mathlib.Core.List.{List, [], _∷_, _++_, map}
 use Prim.Native.Nat.{ℕ, _*_, _<_, min}
 use Rattle.refusal.specs.declared.Verdict.{Verdict}
@@ -10,11 +11,12 @@ use Rattle.targets.specs.Targets.{most, count, targetAt, speedsIn}
 use Rattle.decision.specs.declared.Decision.{Decision}
 use Rattle.walk.specs.Walk.{Arrival, locationOf}
 use Rattle.laws.specs.Literal.{walkZ, startZ}
-use Rattle.judge.specs.Judge.{isCalled, firstFrom}
+use Rattle.judge.specs.Judge.{isCalled, isEmergencyCalled, firstFrom}
 use Rattle.judge.specs.Approach.{Approach, force, ground, predictionOf, callOf}
+use Rattle.judge.specs.Emergency.{Emergency, emergencyForce, emergencyStop, emergencyCallOf}
 use Rattle.sampling.specs.Laws.{Lent}
 use Rattle.demands.specs.Machine.{Call, opening, sampling, Lends, LendsEach, Machine, call, replies, after, Holding, Accepts, Decides}
-use Rattle.demands.specs.History.{causeIn, decisionAt, Standing, nothing, since, sessionAt, standingAfter, paperFrom}
+use Rattle.demands.specs.History.{standsIn, decisionAt, Standing, nothing, since, sessionAt, standingAfter, paperFrom}
 
 module _ {S T : Type 0} (h : Holding S T) where
   -- a verdict and an output, as they are told
@@ -36,23 +38,27 @@ module _ {S T : Type 0} (h : Holding S T) where
     pub record Demand-2 : Type 0 where
       -- what is told by every call of every run is the paper's: the verdict and each byte of the output
       pub told : (ks : List Call) → LendsEach ks → replies m (m .none) ks ≡ map telling (paperFrom nothing ks)
-      -- and the state after it holds the air brakes and the cause of the history that stands
+      -- and the state after it holds the air brakes and the two causes of the history that stands
       pub history-held : (ks : List Call) → LendsEach ks → after m (m .none) ks ≡ stateAt (m .none) (standingAfter nothing ks)
-      -- the output of a sample that is accepted then reads as the paper's decision
-      pub decision-read : (ks : List Call) (l : Lent) → LendsEach ks → Lends (sampling l) →
+      -- each record of a sample that is accepted then reads as the paper's decision, of the penalty and of emergency
+      pub decision-read : (e : Bool) (ks : List Call) (l : Lent) → LendsEach ks → Lends (sampling l) →
           (c : Consist) (past : List Lent) → standingAfter nothing ks ≡ since c past →
           let r = call m (after m (m .none) ks) (sampling l) in
-          Accepts h r → Decides h r (decisionAt c past l)
-      -- "Once commanded, a penalty stands until the session is opened anew.": a decision d with the penalty, any calls after it, and a decision d′
-      -- after those, whatever the state at first
-      pub penalty-stands : (z : S) (l l′ : Lent) (ks : List Call) (d d′ : Decision) → h .Fits z → Lends (sampling l) → LendsEach ks → Lends (sampling l′) →
+          Accepts h r → Decides h e r (decisionAt e c past l)
+      -- "Once commanded, a penalty stands until the session is opened anew.", and so does an emergency: a decision d with the bit, any calls after it,
+      -- and a decision d′ after those, whatever the state at first
+      pub stands : (e : Bool) (z : S) (l l′ : Lent) (ks : List Call) (d d′ : Decision) → h .Fits z → Lends (sampling l) → LendsEach ks → Lends (sampling l′) →
           let r = call m z (sampling l) in
-          Decides h r d → d .penalty ≡ true → NotOpenedAnew (r .state) ks → Decides h (call m (after m (r .state) ks) (sampling l′)) d′
+          Decides h e r d → d .penalty ≡ true → NotOpenedAnew (r .state) ks → Decides h e (call m (after m (r .state) ks) (sampling l′)) d′
           → (d′ .penalty ≡ true) × (d′ .cause ≡ d .cause)
+      -- no emergency without a penalty
+      pub penalty-first : (z : S) (l : Lent) (d d′ : Decision) → h .Fits z → Lends (sampling l) →
+          let r = call m z (sampling l) in
+          Decides h false r d → Decides h true r d′ → d′ .penalty ≡ true → d .penalty ≡ true
 
--- in the paper's words: whatever samples are accepted later, the cause of a history stays
+-- in the paper's words: whatever samples are accepted later, the cause of a history stays, of the penalty and of emergency
 unfoldable pub CauseStays : Type 0
-CauseStays = (c : Consist) (h later : List Lent) → 0 < causeIn c h → causeIn c (later ++ h) ≡ causeIn c h
+CauseStays = (e : Bool) (c : Consist) (h later : List Lent) → 0 < standsIn e c h → standsIn e c (later ++ h) ≡ standsIn e c h
 
 -- ---- the locations, by the walk as the paper words it, with a squared speed that may be below zero
 
@@ -80,3 +86,21 @@ module _ (x : Approach) where
 
 unfoldable pub Locations : Type 0
 Locations = (x : Approach) (targets : List ℕ) → Located x targets
+
+-- the same of emergency's walk
+module _ (e : Emergency) where
+  -- "predict a stop by emergency air too"
+  abbrev pub emergencyLiterally : ℕ
+  emergencyLiterally = let x = e .approach in locationOf (walkZ (x .consist) (emergencyForce e) (ground x) 0 2048 (startZ (x .head) (x .speed)))
+
+  module _ (targets : List ℕ) where
+    -- "Emergency is called if the stop is at or past a judged target of speed 0, with no offset": of target k
+    abbrev pub callsEmergency : ℕ → Bool
+    callsEmergency k = let target = targetAt targets k in isEmergencyCalled (e .approach .head) (target .location) (target .speed) emergencyLiterally
+
+    pub record EmergencyLocated : Type 0 where
+      pub stop : emergencyStop e ≡ emergencyLiterally
+      pub call : emergencyCallOf e targets ≡ firstFrom callsEmergency 0 (min (count targets) most)
+
+unfoldable pub EmergencyLocations : Type 0
+EmergencyLocations = (e : Emergency) (targets : List ℕ) → EmergencyLocated e targets

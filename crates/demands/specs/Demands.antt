@@ -6,7 +6,7 @@ use Rattle.demands.specs.Program as program
 use Rattle.demands.specs.Library.{inBytes, ourLibrary}
 use Rattle.demands.specs.Library as library
 use Rattle.demands.specs.Demand2.{Demand-2}
-use Rattle.demands.specs.Demand3.{Demand-3}
+use Rattle.demands.specs.Demand3.{Demand-3, Emergency-3}
 use Rattle.demands.specs.Useless.{NotUseless}
 
 -- of the machines whose contracts `Meets` says; `ours`, from any state that is before an opening, is one
@@ -17,6 +17,7 @@ pub record Demands {S T : Type 0} (h : Holding S T) (Meets : Machine S T → Typ
   pub does : (m : Machine S T) → Meets m → Does h m
   pub demand-2 : (m : Machine S T) → Meets m → Demand-2 h m
   pub demand-3 : (m m′ : Machine S T) → Meets m → Meets m′ → Demand-3 h m m′
+  pub emergency-3 : (m m′ : Machine S T) → Meets m → Meets m′ → Emergency-3 h m m′
   pub not-useless : (m : Machine S T) → Meets m → NotUseless h m
 
 abbrev pub Program : Type 0

@@ -9,12 +9,13 @@ use Rattle.refusal.specs.Number.{numberOf, numberOfVerdict}
 use Rattle.refusal.specs.Lowest.{Rule}
 use Rattle.refusal.specs.Written.{noRoom}
 use Rattle.sample.specs.Sample.{rawIn, layoutRules}
-use Rattle.decision.specs.Decision.{size}
+use Rattle.decision.specs.Decision.{bothSize}
 use Rattle.laws.specs.Tested.{Tested, refused, answered, testedFor}
 use Rattle.judge.specs.Approach.{Approach, force, ground, arrivalOf}
+use Rattle.judge.specs.Emergency.{Emergency, emergencyForce, emergencyArrival}
 use Rattle.admission.specs.Table.{wrongTime, linesBefore}
 use Rattle.session.specs.declared.Session.{Session}
-use Rattle.sampling.specs.Sample.{sampleIn, approach, openFirst, sampleCall}
+use Rattle.sampling.specs.Sample.{sampleIn, approach, emergency, openFirst, sampleCall}
 
 -- a line of the table: whether its condition holds, and its number
 abbrev pub Line : Type 0
@@ -32,16 +33,19 @@ firstLine (line ∷ lines) = cond (line .0) (line .1) (firstLine lines)
 abbrev pub tested : Approach → ℕ → Tested
 tested x u = testedFor (x .consist) (force x) (ground x) (x .head) (x .speed) u
 
+abbrev pub testedEmergency : Emergency → Tested
+testedEmergency e = let x = e .approach in testedFor (x .consist) (emergencyForce e) (ground x) (x .head) (x .speed) 0
+
 abbrev pub isRefused : Tested → Bool
 isRefused refused = true
 isRefused (answered a) = false
 
--- document 01's table for a sample call: 1; 2 on, before the walk; 11, by the walk to the stop; 12
+-- document 01's table for a sample call: 1; 2 on, before the walk; 11, by the walk to the stop; 12, as R-5 has it
 abbrev pub tableWithEleven : Session → (s p t out : List ℕ) → List Line
 tableWithEleven x s p t out =
     map numbered (openFirst x (layoutRules s ++ linesBefore (x .consist) (wrongTime (x .brake) (sampleIn s)) (rawIn s) p t))
     ++ (isRefused (tested (approach x (sampleIn s) p) 0), 11)
-    ∷ (noRoom size out, 12)
+    ∷ (noRoom bothSize out, 12)
     ∷ []
 
 pub record Eleven (x : Session) (s p t out : List ℕ) : Type 0 where
@@ -50,3 +54,6 @@ pub record Eleven (x : Session) (s p t out : List ℕ) : Type 0 where
   -- and for the stop and every target speed document 01's walk finds what a prediction of an accepted sample does
   pub arrivals : sampleCall x s p t out .0 .verdict ≡ Accepted → (u : ℕ) →
       tested (approach x (sampleIn s) p) u ≡ answered (arrivalOf (approach x (sampleIn s) p) u)
+  -- and by emergency air too
+  pub emergency-arrival : sampleCall x s p t out .0 .verdict ≡ Accepted →
+      testedEmergency (emergency x (sampleIn s) p) ≡ answered (emergencyArrival (emergency x (sampleIn s) p))

@@ -1,13 +1,14 @@
 -- "Figures to meet", all cases marked P as one table under a single statement. Its proof is `figures` of proofs/Figures.antt.
 use mathlib.Core.Path.{_≡_}
-use mathlib.Core.Bool.{true}
+use mathlib.Core.Bool.{true, false}
 use lib.IntN.{pos, negsuc}
+use lib.ListN.{take}
 use Rattle.refusal.specs.declared.Verdict.the-variants.{Accepted}
 use Rattle.hundredths.specs.declared.Reading.the-variants.{Hundredths}
 use Rattle.hundredths.specs.Figures.{pressureAt, speedAt}
 use Rattle.consist.specs.Figures.{train}
 use Rattle.decision.specs.declared.Decision.{Decision}
-use Rattle.decision.specs.Decision.{readDecision}
+use Rattle.decision.specs.Decision.{size, readDecision}
 use Rattle.brake.specs.Equalization.{equalizationService}
 use Rattle.air.specs.Rules.{equalizationEmergency, combined, fallService}
 use Rattle.track.specs.Track.{gradeUnder}
@@ -25,7 +26,7 @@ use Rattle.demands.specs.Case.{standing, sample, profile, targets, out}
 
 -- `1 0 1 1 5032`: time, state, penalty, cause, stopping location
 abbrev pub second : Decision
-second = record { time = 1; state = 0; penalty = true; cause = 1; stop = 5032 }
+second = record { emergency = false; time = 1; state = 0; penalty = true; cause = 1; stop = 5032 }
 
 pub record Figures : Type 0 where
   -- "Equalization, A 9,000, B 0: 6,428."
@@ -53,5 +54,5 @@ pub record Figures : Type 0 where
   pub pressure : pressureAt 0x3f33_3333 ≡ Hundredths 69
   pub speed : speedAt 0x3f33_3333 ≡ Hundredths 70
   -- "P for the second line": what is decided on the sample 1, 5,000, 1.0, and its text
-  pub second-line : readDecision (sampleCall standing (sample 1 63 128) profile targets out .1) ≡ (Accepted, second)
+  pub second-line : readDecision (take size (sampleCall standing (sample 1 63 128) profile targets out .1)) ≡ (Accepted, second)
   pub second-text : decisionText second ≡ secondLine

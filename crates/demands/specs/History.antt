@@ -15,18 +15,19 @@ use Rattle.consist.specs.Consist.{consistIn, readRules}
 use Rattle.targets.specs.Targets.{most, speedsIn}
 use Rattle.sample.specs.declared.Sample.{Sample}
 use Rattle.decision.specs.declared.Decision.{Decision}
-use Rattle.decision.specs.Decision.{bytesOf}
+use Rattle.decision.specs.Decision.{bothBytes}
 use Rattle.brake.specs.declared.Brake.{Brake}
 use Rattle.brake.specs.State.{stateNumber}
 use Rattle.brake.specs.Brake.{atOpening}
 use Rattle.update.specs.Rules.{updateOf}
 use Rattle.walk.specs.declared.Prediction.{Prediction}
 use Rattle.judge.specs.Approach.{Approach, predictionOf, callOf}
+use Rattle.judge.specs.Emergency.{Emergency, emergencyStop, emergencyCallOf}
 use Rattle.admission.specs.Table.{linesOpen}
-use Rattle.prediction.specs.Prediction.{approachOf}
+use Rattle.prediction.specs.Prediction.{approachOf, emergencyOf, behind}
 use Rattle.session.specs.declared.Session.{Session}
 use Rattle.session.specs.Session.{noneOpen}
-use Rattle.sampling.specs.Sample.{sampleIn}
+use Rattle.sampling.specs.Sample.{sampleIn, decidedWith}
 use Rattle.sampling.specs.Laws.{Lent}
 use Rattle.demands.specs.Machine.{Call, opening, sampling}
 
@@ -58,16 +59,34 @@ firstCall (n ∷ ns) = cond (eqb n 0) (firstCall ns) n
 abbrev pub causeIn : Consist → List Lent → ℕ
 causeIn c h = firstCall (callsIn c h)
 
+-- ---- R-5: "From the sample that calls the penalty on, predict a stop by emergency air too"
+
+abbrev pub emergencyAt : Consist → List Lent → Lent → Emergency
+emergencyAt c h l = emergencyOf c (brakes c (l ∷ h)) (sampleIn (l .sample)) (l .profile)
+
+-- the calls of emergency, as those for the penalty; none before a penalty stands
+unfoldable pub emergencyCallsIn : Consist → List Lent → List ℕ
+emergencyCallsIn c [] = []
+emergencyCallsIn c (l ∷ h) = emergencyCallsIn c h ++ behind (causeIn c (l ∷ h)) (emergencyCallOf (emergencyAt c h l) (l .targets)) ∷ []
+
+-- "Emergency is called .. and it stays called."
+abbrev pub emergencyIn : Consist → List Lent → ℕ
+emergencyIn c h = firstCall (emergencyCallsIn c h)
+
 -- ---- what is decided, and what is refused
 
-abbrev pub decisionAt : Consist → List Lent → Lent → Decision
-decisionAt c h l = record {
-  time = sampleIn (l .sample) .time;
-  state = stateNumber (brakes c (l ∷ h) .state);
-  penalty = not (eqb (causeIn c (l ∷ h)) 0);
-  cause = causeIn c (l ∷ h);
-  stop = predictionAt c h l .stop;
-}
+-- of the penalty, or of emergency
+abbrev pub standsIn : (emergency : Bool) → Consist → List Lent → ℕ
+standsIn false c h = causeIn c h
+standsIn true c h = emergencyIn c h
+
+-- "stopping location"; "its location the emergency stop"
+abbrev pub stopAt : (emergency : Bool) → Consist → List Lent → Lent → ℕ
+stopAt false c h l = predictionAt c h l .stop
+stopAt true c h l = behind (causeIn c (l ∷ h)) (emergencyStop (emergencyAt c h l))
+
+abbrev pub decisionAt : (emergency : Bool) → Consist → List Lent → Lent → Decision
+decisionAt e c h l = decidedWith e (sampleIn (l .sample) .time) (stateNumber (brakes c (l ∷ h) .state)) (standsIn e c (l ∷ h)) (stopAt e c h l)
 
 -- 9: "time not 1 to 5 seconds after the last accepted sample"; "The session's first sample may have any time and is never refused 9."
 abbrev pub wrongTimeAfter : List Lent → Sample → Bool
@@ -98,16 +117,16 @@ next st (opening s) = kept (lowest (readRules s)) (since (consistIn s) []) st
 next nothing (sampling l) = nothing
 next (since c h) (sampling l) = kept (lowest (rulesAt c h l)) (since c (l ∷ h)) (since c h)
 
--- unchanged where refused; "It writes the first 8 output bytes only."
+-- unchanged where refused; otherwise both records, and no other byte
 abbrev pub outAt : Standing → Call → List ℕ
 outAt st (opening s) = []
 outAt nothing (sampling l) = l .out
-outAt (since c h) (sampling l) = written (lowest (rulesAt c h l)) (bytesOf (decisionAt c h l)) (l .out) .1
+outAt (since c h) (sampling l) = written (lowest (rulesAt c h l)) (bothBytes (decisionAt false c h l) (decisionAt true c h l)) (l .out) .1
 
--- the session that holds what stands: the consist, the air brakes and the cause after the history
+-- the session that holds what stands: the consist, the air brakes and the two causes after the history
 abbrev pub sessionAt : Standing → Session
 sessionAt nothing = noneOpen
-sessionAt (since c h) = record { opened = true; consist = c; brake = brakes c h; cause = causeIn c h }
+sessionAt (since c h) = record { opened = true; consist = c; brake = brakes c h; cause = causeIn c h; emergency = emergencyIn c h }
 
 -- what stands after calls
 unfoldable pub standingAfter : Standing → List Call → Standing

@@ -1,9 +1,10 @@
 -- A machine: what a customer has who opens sessions and offers samples. The Rattle program is one (specs/Program.antt), the C library another
 -- (specs/Library.antt); runs, and what a call is to do, are defined here for both.
 use mathlib.Core.Path.{_≡_}
+use mathlib.Core.Bool.{Bool, true, false}
 use mathlib.Core.List.{List, [], _∷_}
 use Prim.Native.Nat.{ℕ, _^_, _<_}
-use lib.ListN.{length, take}
+use lib.ListN.{length, take, drop}
 use Rattle.bits.specs.Bytes.{Bytes}
 use Rattle.refusal.specs.Steps.{kept}
 use Rattle.refusal.specs.declared.Verdict.{Verdict}
@@ -83,6 +84,11 @@ pub record Holding (S T : Type 0) : Type 1 where
   pub put : S → Session → S
   pub tell : Verdict → T
 
+-- the record of a sample call's output: the decision's, or, of emergency, the one that follows it
+abbrev pub recordOf : (emergency : Bool) → List ℕ → List ℕ
+recordOf false out = take size out
+recordOf true out = take size (drop size out)
+
 module _ {S T : Type 0} (h : Holding S T) where
   -- a state that fits its words, and is this session
   abbrev pub Holds : S → Session → Type 0
@@ -103,7 +109,7 @@ module _ {S T : Type 0} (h : Holding S T) where
   abbrev pub Accepts : Reply S T → Type 0
   Accepts r = r .told ≡ h .tell Accepted
 
-  -- an accepted sample call, whose output reads as the decision d
-  pub record Decides (r : Reply S T) (d : Decision) : Type 0 where
+  -- an accepted sample call, whose record, the first or that of emergency, reads as the decision d
+  pub record Decides (emergency : Bool) (r : Reply S T) (d : Decision) : Type 0 where
     pub accepted : Accepts r
-    pub reads : readDecision (take size (r .out)) ≡ (Accepted, d)
+    pub reads : readDecision (recordOf emergency (r .out)) ≡ (Accepted, d)

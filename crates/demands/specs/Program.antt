@@ -23,12 +23,13 @@ use Rattle.demands.specs.Machine.{Slice, Lends, sampling, Machine, ours,
 
 -- ---- a state is the session itself, and a verdict is told as it is
 
--- each field fits its word: of the consist and of the brake in the order of `fieldsOf` and `brakeTold`, and the cause
+-- each field fits its word: of the consist and of the brake in the order of `fieldsOf` and `brakeTold`, and the two causes
 abbrev pub FitsWords : Session → Type 0
 FitsWords x =
     Fit (16 ∷ 16 ∷ 16 ∷ 16 ∷ 32 ∷ 32 ∷ 16 ∷ 16 ∷ 16 ∷ []) (fieldsOf (x .consist))
     × Fit (8 ∷ 16 ∷ 16 ∷ 16 ∷ 16 ∷ 16 ∷ 16 ∷ 16 ∷ 32 ∷ 1 ∷ []) (brakeTold (x .brake))
     × (x .cause < 2 ^ 8)
+    × (x .emergency < 2 ^ 8)
 
 abbrev pub byValue : Holding Session Verdict
 byValue = record { Fits = FitsWords; session = λ x. x; put = λ x y. y; tell = λ v. v }

@@ -1,5 +1,6 @@
 -- "Four useless programs have to be rejected." A statement over a machine, and one over a walk; proofs/Useless.antt proves them.
 use mathlib.Core.Path.{_≡_}
+use mathlib.Core.Bool.{false}
 use mathlib.Core.List.{List}
 use Prim.Native.Nat.{ℕ, zero, suc, _+_}
 use lib.Dec.{leb}
@@ -7,6 +8,7 @@ use lib.IntN.{pos, _-ℤ_}
 use lib.ListN.{take, drop}
 use contract.Lifetimes.{Lfts}
 use borrow.Fn.World.{ArgsD}
+use denote.Ref.{now}
 use denote.Triple.Clauses.{AtExit}
 use Rattle.whole.specs.Floor.{cut}
 use Rattle.whole.specs.Root.{rootOf}
@@ -16,6 +18,7 @@ use Rattle.consist.specs.declared.Consist.{Consist}
 use Rattle.decision.specs.declared.Decision.{Decision}
 use Rattle.decision.specs.Decision.{size}
 use Rattle.track.specs.declared.Track.{Track}
+use Rattle.track.specs.Steps.{trackOf}
 use Rattle.step.specs.declared.Curve.{Curve}
 use Rattle.walk.specs.declared.Prediction.{Prediction}
 use Rattle.step.specs.declared.Run.{Run}
@@ -85,7 +88,7 @@ module _ {S T : Type 0} (h : Holding S T) (m : Machine S T) where
     pub output-untouched : EverySample (λ z l r. r .out ≡ l .out) → ⊥
     -- "One that walks one honest step, or takes one honest sample, and repeats it is caught by the later ones in demand 2.": the stop that is
     -- decided is that of the repeated step; what is said of an accepted sample is said of the next one again
-    pub repeats-step : EverySample (λ z l r. (d : Decision) → Decides h r d → d .stop ≡ stopBy (approach (h .session z) (sampleIn (l .sample)) (l .profile))) → ⊥
+    pub repeats-step : EverySample (λ z l r. (d : Decision) → Decides h false r d → d .stop ≡ stopBy (approach (h .session z) (sampleIn (l .sample)) (l .profile))) → ⊥
     pub repeats-sample : EverySample (λ z l r.
         (l′ : Lent) → Lends (sampling l′) →
         let r′ = call m (r .state) (sampling l′) in
@@ -98,9 +101,9 @@ Walker = Consist → Curve → Track → ℕ → ℕ → List ℕ → Prediction
 
 abbrev pub MeetsPredict : Walker → Type 0
 MeetsPredict w =
-    (κs : Lfts 0) (a : ArgsD signature κs) (x : AtExit ended κs) → predict-reads.Pre κs a →
-    let (c, (curve, (track, (head, (v, (speeds, _)))))) = a in
-    predict-reads.Post κs a (w c curve track head v speeds) x
+    (κs : Lfts 1) (a : ArgsD signature κs) (x : AtExit ended κs) → predict-reads.Pre κs a →
+    let (c, (curve, (count, (starts, (grades, (curvatures, (head, (v, (speeds, _))))))))) = a in
+    predict-reads.Post κs a (w c curve (trackOf count (now starts) (now grades) (now curvatures)) head v speeds) x
 
 abbrev pub WalkRepeatsStep : Walker → Type 0
 WalkRepeatsStep w =

@@ -9,6 +9,7 @@ pub figures : Figures
 unfolding lastDigits decimal decisionText refusalText counted profileAhead targetsAhead
 figures = record {
   first-line = refl;
+  second-record = refl;
   one-digit = refl;
   two-digits = refl;
   largest = refl;

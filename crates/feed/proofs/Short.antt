@@ -43,9 +43,9 @@ module _ (x : Session) (s p t out : List ℕ) (o : isOpen x ≡ true) where
 pub short-last : ShortLast
 unfolding ShortLast linesOf
 short-last x p t [] s o h =
-    ap (λ (a : Answer × List ℕ). sampleText (a .0 .verdict) (a .1) ++ []) (short-call x s p t (replicate decision.size 0) o h) ∙ append-nil (refusalText WrongLength)
+    ap (λ (a : Answer × List ℕ). sampleText (a .0 .verdict) (a .1) ++ []) (short-call x s p t (replicate decision.bothSize 0) o h) ∙ append-nil (refusalText WrongLength)
 short-last x p t (a ∷ ss) s o h =
-    let answer = sampleCall x a p t (replicate decision.size 0) in
+    let answer = sampleCall x a p t (replicate decision.bothSize 0) in
     let text = sampleText (answer .0 .verdict) (answer .1) in
-    ap (λ (l : List ℕ). text ++ l) (short-last (answer .0 .session) p t ss s (still-open x a p t (replicate decision.size 0) o) h)
+    ap (λ (l : List ℕ). text ++ l) (short-last (answer .0 .session) p t ss s (still-open x a p t (replicate decision.bothSize 0) o) h)
     ∙ sym (append-assoc text (linesOf (answer .0 .session) p t ss) (refusalText WrongLength))

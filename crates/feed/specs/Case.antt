@@ -49,16 +49,38 @@ secondLine = 49 ∷ 32 ∷ 48 ∷ 32 ∷ 49 ∷ 32 ∷ 49 ∷ 32 ∷ 53 ∷ 48 �
 abbrev pub thirdLine : List ℕ
 thirdLine = 50 ∷ 32 ∷ 48 ∷ 32 ∷ 49 ∷ 32 ∷ 49 ∷ 32 ∷ 53 ∷ 48 ∷ 48 ∷ 49 ∷ 10 ∷ []
 
+-- and of each sample's second record (02, R-5), "bit, cause and location zero" before the penalty: `0 0 0 0 0`
+abbrev pub firstEmergency : List ℕ
+firstEmergency = 48 ∷ 32 ∷ 48 ∷ 32 ∷ 48 ∷ 32 ∷ 48 ∷ 32 ∷ 48 ∷ 10 ∷ []
+
+-- `1 0 0 0 5032`
+abbrev pub secondEmergency : List ℕ
+secondEmergency = 49 ∷ 32 ∷ 48 ∷ 32 ∷ 48 ∷ 32 ∷ 48 ∷ 32 ∷ 53 ∷ 48 ∷ 51 ∷ 50 ∷ 10 ∷ []
+
+-- `2 0 0 0 5001`
+abbrev pub thirdEmergency : List ℕ
+thirdEmergency = 50 ∷ 32 ∷ 48 ∷ 32 ∷ 48 ∷ 32 ∷ 48 ∷ 32 ∷ 53 ∷ 48 ∷ 48 ∷ 49 ∷ 10 ∷ []
+
+-- what each sample prints
+abbrev pub firstLines : List ℕ
+firstLines = firstLine ++ firstEmergency
+
+abbrev pub secondLines : List ℕ
+secondLines = secondLine ++ secondEmergency
+
+abbrev pub thirdLines : List ℕ
+thirdLines = thirdLine ++ thirdEmergency
+
 -- `x` and a digit, here by its character: 50 is `2`
 abbrev pub crossed : ℕ → List ℕ
 crossed digit = 120 ∷ 32 ∷ digit ∷ 10 ∷ []
 
 pub record Case : Type 0 where
-  pub whole-output : outputOf (opening ++ first ++ second ++ third) ≡ firstLine ++ secondLine ++ thirdLine
+  pub whole-output : outputOf (opening ++ first ++ second ++ third) ≡ firstLines ++ secondLines ++ thirdLines
   -- the last 5 bytes do not come: `x 2`
-  pub short-sample : outputOf (opening ++ first ++ second ++ take 15 third) ≡ firstLine ++ secondLine ++ crossed 50
+  pub short-sample : outputOf (opening ++ first ++ second ++ take 15 third) ≡ firstLines ++ secondLines ++ crossed 50
   -- the first sample again, refused `x 9`, does not end the run
-  pub goes-on : outputOf (opening ++ first ++ first ++ second) ≡ firstLine ++ crossed 57 ++ secondLine
+  pub goes-on : outputOf (opening ++ first ++ first ++ second) ≡ firstLines ++ crossed 57 ++ secondLines
   -- no samples, no output
   pub no-samples : outputOf opening ≡ []
   -- no bytes at all: `x 2`

@@ -1,16 +1,18 @@
 -- Figures of the lines and of the counts, as one statement. Its proof is `figures` of proofs/Figures.antt.
 use mathlib.Core.Path.{_≡_}
-use mathlib.Core.Bool.{false}
+use mathlib.Core.Bool.{true, false}
 use mathlib.Core.List.{[], _∷_}
 use Rattle.refusal.specs.declared.Refusal.the-variants.{BrokenProfile, NoRoom}
 use Rattle.opening.specs.declared.Part.the-variants.{Bytes, Broken}
 use Rattle.opening.specs.Opening.{profileAhead, targetsAhead}
 use Rattle.line.specs.Line.{decimal, decisionText, refusalText}
-use Rattle.feed.specs.Case.{firstLine, crossed}
+use Rattle.feed.specs.Case.{firstLine, secondEmergency, crossed}
 
 pub record Figures : Type 0 where
   -- `0 0 0 0 5000`, of 01's case
-  pub first-line : decisionText (record { time = 0; state = 0; penalty = false; cause = 0; stop = 5000 }) ≡ firstLine
+  pub first-line : decisionText (record { emergency = false; time = 0; state = 0; penalty = false; cause = 0; stop = 5000 }) ≡ firstLine
+  -- `1 0 0 0 5032`, the second record "alike"
+  pub second-record : decisionText (record { emergency = true; time = 1; state = 0; penalty = false; cause = 0; stop = 5032 }) ≡ secondEmergency
   -- `x 6` and `x 12`
   pub one-digit : refusalText BrokenProfile ≡ crossed 54
   pub two-digits : refusalText NoRoom ≡ 120 ∷ 32 ∷ 49 ∷ 50 ∷ 10 ∷ []

@@ -55,12 +55,12 @@ samplesIn feed = let s = afterTargets feed in upTo ((length s + (sample.size - 1
 
 -- ---- what is printed
 
--- "Each sample prints one line", also after one that is refused; each call is lent the profile, the targets and 8 bytes for its decision.
+-- Each sample prints its lines, also after one that is refused; each call is lent the profile, the targets and 16 bytes for its two decisions.
 -- "A short last sample prints `x 2`" is the table's 2, and specs/Short.antt states it.
 unfoldable pub linesOf : Session → List ℕ → List ℕ → List (List ℕ) → List ℕ
 linesOf x p t [] = []
 linesOf x p t (s ∷ ss) =
-    let answer = sampleCall x s p t (replicate decision.size 0) in
+    let answer = sampleCall x s p t (replicate decision.bothSize 0) in
     let rest = linesOf (answer .0 .session) p t ss in
     sampleText (answer .0 .verdict) (answer .1) ++ rest
 

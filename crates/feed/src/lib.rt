@@ -1,5 +1,5 @@
 // The session program over two descriptors: a feed is read from one, and its lines are written to the other. Nothing is read
-// past what is needed to answer, a line is written as soon as its sample is judged, and a feed of any length runs in the same
+// past what is needed to answer, lines are written as soon as their sample is judged, and a feed of any length runs in the same
 // memory.
 use consist::Consist;
 use decision::Decision;
@@ -26,8 +26,9 @@ struct Turn {
     more: bool,
 }
 
-// Writes a line, which stands at the end of `text`, by one write, so that nobody reads half of it. Answers whether it was written.
-fn write_line(output: i32, text: &[u8], from: usize) -> bool
+// Writes the lines that stand at the end of `text` by one write, so that nobody reads half of them. Answers whether they were
+// written.
+fn write_lines(output: i32, text: &[u8], from: usize) -> bool
     requires { ⌜ from ≤ length (now text) ⌝ }
 {
     io::write_all(output, &text[from..])
@@ -36,14 +37,14 @@ fn write_line(output: i32, text: &[u8], from: usize) -> bool
 fn print_refusal(output: i32, r: Refusal) {
     let mut text = [0u8; ROOM];
     let from = line::put_refusal(r, &mut text);
-    write_line(output, &text, from);
+    write_lines(output, &text, from);
 }
 
-// Answers whether the line was written.
-fn print_sample(output: i32, v: Verdict, decision: &[u8]) -> bool {
+// Answers whether the lines were written.
+fn print_sample(output: i32, v: Verdict, decisions: &[u8]) -> bool {
     let mut text = [0u8; ROOM];
-    let from = line::put_sample(v, decision, &mut text);
-    write_line(output, &text, from)
+    let from = line::put_sample(v, decisions, &mut text);
+    write_lines(output, &text, from)
 }
 
 fn read_consist(input: i32) -> Answer {
@@ -94,7 +95,7 @@ fn read_targets(input: i32, t: &mut [u8]) -> Part
     opening::targets_taken(ahead, &t[..came])
 }
 
-// Reads a sample, judges it and prints its line. No other follows one that is cut short, or whose line can't be written.
+// Reads a sample, judges it and prints its lines. No other follows one that is cut short, or whose lines can't be written.
 fn answer_one(input: i32, output: i32, x: Session, p: &[u8], t: &[u8]) -> Turn {
     let mut sample = [0u8; RawSample::SIZE];
     let n = io::read_full(input, &mut sample);
@@ -104,11 +105,11 @@ fn answer_one(input: i32, output: i32, x: Session, p: &[u8], t: &[u8]) -> Turn {
             more: false,
         };
     }
-    let mut decision = [0u8; Decision::SIZE];
-    let answer = sampling::sample(x, &sample[..n], p, t, &mut decision);
+    let mut decisions = [0u8; Decision::BOTH];
+    let answer = sampling::sample(x, &sample[..n], p, t, &mut decisions);
     let session = answer.session;
     let verdict = answer.verdict;
-    let printed = print_sample(output, verdict, &decision);
+    let printed = print_sample(output, verdict, &decisions);
     Turn {
         session,
         more: printed & (n == sample.len()),

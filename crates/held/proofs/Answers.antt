@@ -38,25 +38,25 @@ read-tells x y h = ap (λ (a : Answer). (a .verdict, a .session)) (answer-one (r
 -- ---- bytes that are a record
 
 pub record IsRecord (s : List ℕ) : Type 0 where
-  pub size : length s ≡ 40
+  pub size : length s ≡ 41
   pub seal : isSealed s ≡ true
   pub marked : getD (fieldsAt s) 0 0 ≡ mark
-  pub state : getD (fieldsAt s) 3 0 ≤ 5
+  pub state : getD (fieldsAt s) 4 0 ≤ 5
 
 module _ (s : List ℕ) where
   pub is-record : noRecord s ≡ false → IsRecord s
   unfolding noRecord wrongLength
   is-record h =
-      let l = eqb (length s) 40 in
+      let l = eqb (length s) 41 in
       let m = eqb (getD (fieldsAt s) 0 0) mark in
-      let x = neither (not l || not (isSealed s) || not m) (ltb 5 (getD (fieldsAt s) 3 0)) h in
+      let x = neither (not l || not (isSealed s) || not m) (ltb 5 (getD (fieldsAt s) 4 0)) h in
       let y = neither (not l || not (isSealed s)) (not m) (x .0) in
       let z = neither (not l) (not (isSealed s)) (y .0) in
       record {
-        size = eqb-true (length s) 40 (not-false l (z .0));
+        size = eqb-true (length s) 41 (not-false l (z .0));
         seal = not-false (isSealed s) (z .1);
         marked = eqb-true (getD (fieldsAt s) 0 0) mark (not-false m (y .1));
-        state = ltb-false 5 (getD (fieldsAt s) 3 0) (x .1);
+        state = ltb-false 5 (getD (fieldsAt s) 4 0) (x .1);
       }
 
   -- ---- the reader
@@ -80,7 +80,7 @@ module _ (s : List ℕ) where
   consist-accepted h i = kept (h i) (consist.consistIn (consistAt s)) consist.none
 
   -- where it is refused, no session is open
-  pub consist-refused : length s ≡ 40 → (r : Refusal) → consist.readConsist (consistAt s) .0 ≡ Refused r → isOpen (sessionIn s) ≡ false
+  pub consist-refused : length s ≡ 41 → (r : Refusal) → consist.readConsist (consistAt s) .0 ≡ Refused r → isOpen (sessionIn s) ≡ false
   unfolding sessionIn wrongLength
   consist-refused l r h = not-eq-not {a = isOpen (sessionIn s)} {b = false} .0 (λ e.
       let c = consist-sound.is-sound _ (opened (sessionIn s) e .tested) in
@@ -90,19 +90,19 @@ module _ (s : List ℕ) where
 -- ---- the writer
 
 module _ (x : Session) (out : List ℕ) where
-  pub write-is : (a b : Bool) → not (isOpen x) ≡ a → noRoom 40 out ≡ b → writeSession x out ≡ written (firstOf ((a, NoSession) ∷ (b, NoRoom) ∷ [])) (bytesOf x) out
+  pub write-is : (a b : Bool) → not (isOpen x) ≡ a → noRoom 41 out ≡ b → writeSession x out ≡ written (firstOf ((a, NoSession) ∷ (b, NoRoom) ∷ [])) (bytesOf x) out
   unfolding writeSession
   write-is a b h i = rw (in-order (writeRules x out) tt, h, i)
 
-  pub write-accepted : isOpen x ≡ true → 40 ≤ length out → writeSession x out ≡ (Accepted, bytesOf x ++ drop 40 out)
+  pub write-accepted : isOpen x ≡ true → 41 ≤ length out → writeSession x out ≡ (Accepted, bytesOf x ++ drop 41 out)
   unfolding noRoom bytesOf sealed consist.bytesOf
-  write-accepted o h = write-is false false (ap not o) (le-ltb (length out) 40 h)
+  write-accepted o h = write-is false false (ap not o) (le-ltb (length out) 41 h)
 
-  pub write-inv : writeSession x out .0 ≡ Accepted → (isOpen x ≡ true) × (40 ≤ length out)
+  pub write-inv : writeSession x out .0 ≡ Accepted → (isOpen x ≡ true) × (41 ≤ length out)
   unfolding writeSession noRoom
   write-inv h =
       let o = accepted _ _ _ (written-accepted _ (bytesOf x) out h) in
-      (not-false (isOpen x) (o .0), ltb-false (length out) 40 (accepted _ _ _ (o .1) .0))
+      (not-false (isOpen x) (o .0), ltb-false (length out) 41 (accepted _ _ _ (o .1) .0))
 
 -- ---- an open session's fields fit
 
@@ -110,4 +110,4 @@ pub fits : (x : Session) → isOpen x ≡ true → Fit widths (fieldsOf x)
 fits x h =
     let o = opened x h in
     let k = o .brake in
-    omega (arith, number-most (x .brake .state), bit-fits (x .brake .sampled), o .cause, k .a, k .b, k .equalization, k .fall, k .hold, k .front, k .rear, k .time, o .consist .ranged)
+    omega (arith, number-most (x .brake .state), bit-fits (x .brake .sampled), o .cause, o .emergency, k .a, k .b, k .equalization, k .fall, k .hold, k .front, k .rear, k .time, o .consist .ranged)

@@ -1,5 +1,5 @@
 -- "Held: state, set, hold (pipe pressure), A (average auxiliary reservoir), B (average cylinder), equalization, fall per second, last front, last rear, last time":
--- the record of an open session, 40 bytes, its reader and its writer. Definitions only.
+-- the record of an open session, 41 bytes, its reader and its writer. Definitions only.
 use Prim.Native.Nat.{ℕ}
 use mathlib.Core.List.{List, [], _∷_, _++_}
 use mathlib.Core.Bool.{Bool, true, not, _||_}
@@ -23,26 +23,26 @@ use Rattle.brake.specs.State.{stateNumber, stateOf}
 use Rattle.session.specs.declared.Session.{Session}
 use Rattle.session.specs.Session.{Told, answerTold, isOpen, noneOpen}
 
--- 40 bytes
+-- 41 bytes
 abbrev pub size : ℕ
-size = 40
+size = 41
 
--- of which 20 are the record's own fields; then stand the consist's record, 16, and the check word of these 36
+-- of which 21 are the record's own fields; then stand the consist's record, 16, and the check word of these 37
 abbrev pub own : ℕ
-own = 20
+own = 21
 
--- the letters B and T
+-- the letters B and U
 abbrev pub mark : ℕ
-mark = 0x4254
+mark = 0x4255
 
--- mark, cause, whether a sample was yet accepted, state, hold, A, B, equalization, fall, last front, last rear, last time
+-- mark, the penalty's cause, the emergency's, whether a sample was yet accepted, state, hold, A, B, equalization, fall, last front, last rear, last time
 abbrev pub fieldsOf : Session → List ℕ
 fieldsOf x =
     let k = x .brake in
-    mark ∷ x .cause ∷ bit (k .sampled) ∷ stateNumber (k .state) ∷ k .hold ∷ k .a ∷ k .b ∷ k .equalization ∷ k .fall ∷ k .«last_front» ∷ k .«last_rear» ∷ k .«last_time» ∷ []
+    mark ∷ x .cause ∷ x .emergency ∷ bit (k .sampled) ∷ stateNumber (k .state) ∷ k .hold ∷ k .a ∷ k .b ∷ k .equalization ∷ k .fall ∷ k .«last_front» ∷ k .«last_rear» ∷ k .«last_time» ∷ []
 
 abbrev pub widths : List ℕ
-widths = 16 ∷ 4 ∷ 1 ∷ 3 ∷ 16 ∷ 16 ∷ 16 ∷ 16 ∷ 16 ∷ 16 ∷ 16 ∷ 24 ∷ []
+widths = 16 ∷ 4 ∷ 4 ∷ 1 ∷ 7 ∷ 16 ∷ 16 ∷ 16 ∷ 16 ∷ 16 ∷ 16 ∷ 16 ∷ 24 ∷ []
 
 -- the open session of these fields and a consist
 abbrev pub ofFields : List ℕ → Consist → Session
@@ -50,18 +50,19 @@ ofFields fs c = record {
   opened = true;
   consist = c;
   brake = record {
-    state = stateOf (getD fs 3 0);
-    hold = getD fs 4 0;
-    a = getD fs 5 0;
-    b = getD fs 6 0;
-    equalization = getD fs 7 0;
-    fall = getD fs 8 0;
-    «last_front» = getD fs 9 0;
-    «last_rear» = getD fs 10 0;
-    «last_time» = getD fs 11 0;
-    sampled = eqb (getD fs 2 0) 1;
+    state = stateOf (getD fs 4 0);
+    hold = getD fs 5 0;
+    a = getD fs 6 0;
+    b = getD fs 7 0;
+    equalization = getD fs 8 0;
+    fall = getD fs 9 0;
+    «last_front» = getD fs 10 0;
+    «last_rear» = getD fs 11 0;
+    «last_time» = getD fs 12 0;
+    sampled = eqb (getD fs 3 0) 1;
   };
   cause = getD fs 1 0;
+  emergency = getD fs 2 0;
 }
 
 -- the fields that bytes begin with, and the consist's record behind them
@@ -82,13 +83,13 @@ sessionIn s = ofFields (fieldsAt s) (consist.consistIn (consistAt s))
 unfoldable pub bytesOf : Session → List ℕ
 bytesOf x = sealed (bytesFrom own widths (fieldsOf x) ++ consist.bytesOf (x .consist))
 
--- not 40 bytes, not sealed, another mark, or a state above 5
+-- not 41 bytes, not sealed, another mark, or a state above 5
 unfoldable pub noRecord : List ℕ → Bool
 noRecord s =
     wrongLength size s
     || not (isSealed s)
     || not (eqb (getD (fieldsAt s) 0 0) mark)
-    || ltb 5 (getD (fieldsAt s) 3 0)
+    || ltb 5 (getD (fieldsAt s) 4 0)
 
 -- 1: bytes that no open session has; one whose consist is refused is not open
 unfoldable pub noSession : List ℕ → Bool

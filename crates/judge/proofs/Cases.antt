@@ -4,12 +4,12 @@ use mathlib.Core.Bool.{Bool, true, false, _&&_, and-false}
 use Prim.Native.Nat.{ℕ, _+_}
 use native.Mathlib.Omega.{arith}
 use lib.Dec.{leb, ltb}
-use borrow.Author.Tests.{lt-ltb, le-ltb, leb-true}
+use borrow.Author.Tests.{lt-ltb, le-ltb, le-leb, leb-true}
 use Rattle.record.specs.Location.{noStop}
 use Rattle.walk.specs.Walk.{reach}
 use Rattle.walk.proofs.Reach.{arrival-at-head}
-use Rattle.judge.specs.Judge.{isJudged, offsetFor, isCalled}
-use Rattle.judge.specs.Cases.{NoneIsBeyond, NoOffset, NoFaster}
+use Rattle.judge.specs.Judge.{isJudged, offsetFor, isCalled, isEmergencyCalled}
+use Rattle.judge.specs.Cases.{NoneIsBeyond, NoOffset, NoFaster, NoStopIsPast}
 use Rattle.judge.proofs.Offsets.{offset-none}
 
 pub none-is-beyond : NoneIsBeyond
@@ -33,3 +33,7 @@ pub no-faster : NoFaster
 unfolding NoFaster isCalled
 no-faster c force ground offset head v target u h =
     rw (arrival-at-head c force ground head v u h, offset-none offset v u h) (past-head head target)
+
+pub no-stop-is-past : NoStopIsPast
+unfolding NoStopIsPast isEmergencyCalled
+no-stop-is-past head target h judged = rw (judged, le-leb target noStop (omega arith))

@@ -7,7 +7,7 @@ use Rattle.record.specs.Location.{farthest}
 use Rattle.consist.specs.declared.Consist.{Consist}
 use Rattle.step.specs.Step.{Ground}
 use Rattle.walk.specs.Walk.{never, locationOf, arrivalFor}
-use Rattle.judge.specs.Judge.{isJudged, offsetFor, isCalled}
+use Rattle.judge.specs.Judge.{isJudged, offsetFor, isCalled, isEmergencyCalled}
 
 -- "Without one in 2,048 steps there is none, and it counts as beyond every target", of those whose location is "at most 4,000,000"
 unfoldable pub NoneIsBeyond : Type 0
@@ -23,3 +23,7 @@ unfoldable pub NoFaster : Type 0
 NoFaster =
     (c : Consist) (force : ℕ → ℕ) (ground : Ground) (offset head v target u : ℕ) → v ≤ u →
     isCalled offset head v target u (locationOf (arrivalFor c force ground head v u)) ≡ false
+
+-- no stop is past every target: an emergency that has none is called for each that is judged and has no speed
+unfoldable pub NoStopIsPast : Type 0
+NoStopIsPast = (head target : ℕ) → target ≤ farthest → isJudged head target ≡ true → isEmergencyCalled head target 0 (locationOf never) ≡ true

@@ -2,7 +2,7 @@
 use mathlib.Core.Bool.{Bool, _&&_, cond}
 use mathlib.Core.List.{List}
 use Prim.Native.Nat.{ℕ, zero, suc, _+_, _-_, _*_, min}
-use lib.Dec.{leb, ltb}
+use lib.Dec.{leb, ltb, eqb}
 use lib.ListN.{getD}
 use Rattle.whole.specs.Ceiling.{ceilDiv}
 use Rattle.targets.specs.Targets.{most}
@@ -32,3 +32,21 @@ firstFrom f k (suc n) = let rest = firstFrom f (suc k) n in cond (f k) (suc k) r
 -- "The cause is the first such target": "0, or 1 to 8 for the target's place in the list", judged or not
 unfoldable pub causeOf : (offset head v count : ℕ) (targets speeds arrivals : List ℕ) → ℕ
 causeOf offset head v count targets speeds arrivals = firstFrom (calls offset head v targets speeds arrivals) 0 (min count most)
+
+-- "The cause .. and, like the penalty, stays": the one that stood, or else the one that is called for
+unfoldable pub standing : (stood called : ℕ) → ℕ
+standing stood called = cond (eqb stood 0) called stood
+
+-- ---- the emergency, by document 02's R-5
+
+-- "Emergency is called if the stop is at or past a judged target of speed 0, with no offset": no stop is past every target
+unfoldable pub isEmergencyCalled : (head target u stop : ℕ) → Bool
+isEmergencyCalled head target u stop = isJudged head target && eqb u 0 && leb target stop
+
+-- the same of target k in the list
+abbrev pub emergencyCalls : (head : ℕ) (targets speeds : List ℕ) (stop k : ℕ) → Bool
+emergencyCalls head targets speeds stop k = isEmergencyCalled head (getD targets k 0) (getD speeds k 0) stop
+
+-- the first such target, as of the penalty
+unfoldable pub emergencyCauseOf : (head count : ℕ) (targets speeds : List ℕ) (stop : ℕ) → ℕ
+emergencyCauseOf head count targets speeds stop = firstFrom (emergencyCalls head targets speeds stop) 0 (min count most)

@@ -1,12 +1,12 @@
--- The brake force of a curve does not fall as the clock runs; and of two consists, the one whose rated force is no higher and whose
--- application time is no shorter has nowhere the greater force. Assumes nothing.
+-- The brake force of a curve does not fall as the clock runs; and of two consists, the one whose rated force is no higher and, by the penalty's curve,
+-- whose application time is no shorter has nowhere the greater force. Assumes nothing.
 use mathlib.Core.Path.{_≡_}
 use Prim.Native.Nat.{ℕ, zero, suc, _*_, _/_, _≤_, _<_}
 use native.Mathlib.Nat.{le-refl, le-div-iff-mul-le, div-mul-le-self, div-zero, mul-le-mul, mul-le-mul-left}
 use native.Mathlib.Omega.{arith}
 use Rattle.consist.specs.declared.Consist.{Consist}
 use Rattle.step.specs.declared.Curve.{Curve}
-use Rattle.step.specs.Curve.{dropAt, cylinderAt, forceAt, penaltyCurve}
+use Rattle.step.specs.Curve.{dropAt, cylinderAt, forceAt, penaltyCurve, emergencyCurve}
 use Rattle.laws.specs.Compare.{Weaker}
 
 -- a quotient grows with its number and falls with its divisor
@@ -56,3 +56,14 @@ module _ (c d : Consist) (a b : ℕ) (some : 0 < d .application) (set : c .set �
             force-le (c .rated) (d .rated) (penaltyCurve c a b) (penaltyCurve d a b) t t rated (le-refl b) (le-refl 5)
             (drop-below application t);
       }
+
+-- emergency air: rated brake force no higher, with the same A, B and equalization
+pub emergency-weaker : (p r a b equalization : ℕ) → p ≤ r →
+    Weaker (forceAt p (emergencyCurve a b equalization)) (forceAt r (emergencyCurve a b equalization))
+emergency-weaker p r a b equalization rated =
+    let k = emergencyCurve a b equalization in
+    record {
+      first-grows = force-grows p k;
+      second-grows = force-grows r k;
+      below = λ t. force-le p r k k t t rated (le-refl _) (le-refl _) (le-refl _);
+    }

@@ -16,7 +16,7 @@ use Rattle.laws.specs.HeldDamage.{DamageSeen}
 use Rattle.held.proofs.Answers.{held-open}
 use Rattle.laws.proofs.HeldTrip.{bytes-of, size-of, seal-of}
 
-unsealed : (x : Session) (s : List ℕ) → Bytes s → length s ≡ 40 → (n : ℕ) → apart (bytesOf x) s ≡ n → 1 ≤ n → n ≤ 2 → isSealed s ≡ false
+unsealed : (x : Session) (s : List ℕ) → Bytes s → length s ≡ 41 → (n : ℕ) → apart (bytesOf x) s ≡ n → 1 ≤ n → n ≤ 2 → isSealed s ≡ false
 unfolding OneSeen TwoSeen
 unsealed x s b l zero e p q = absurd (omega arith)
 unsealed x s b l (suc zero) e p q = one-seen (bytesOf x) s (bytes-of x) b (size-of x ∙ sym l) (seal-of x) e

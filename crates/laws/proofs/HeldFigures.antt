@@ -16,9 +16,15 @@ unfolding lies fieldAt wrongLength checkWord sealed isSealed sessionIn bytesOf n
 figures = record {
   written = refl;
   read = refl;
+  both-written = refl;
+  both-read = refl;
+  penalty-alone = refl;
+  emergency-alone = refl;
+  emergency-nine = refl;
   other-mark = refl;
   state-six = refl;
-  state-seven = refl;
+  state-eight = refl;
+  state-most = refl;
   a-above-set = refl;
   a-below-set = refl;
   a-cause = refl;

@@ -52,14 +52,14 @@ of-fields x h = rw (state-back (x .brake .state), of-bit (x .brake .sampled), sy
 
 -- ---- the bytes of a session
 
--- the fields that a record begins with are those of its first 20 bytes
-fields-at : (s : List ℕ) → Bytes s → length s ≡ 40 → fieldsAt s ≡ fieldsIn widths (take 20 s)
+-- the fields that a record begins with are those of its first 21 bytes
+fields-at : (s : List ℕ) → Bytes s → length s ≡ 41 → fieldsAt s ≡ fieldsIn widths (take 21 s)
 fields-at s b l =
-    let rest : length (drop 20 s) ≡ 20 = simp length-drop (omega (arith, l)) in
-    ap (take 12)
+    let rest : length (drop 21 s) ≡ 20 = simp length-drop (omega (arith, l)) in
+    ap (take 13)
     (fields-from 0 (widths ++ eights 20) s tt (omega (arith, l))
-    ∙ ap (fieldsIn (widths ++ eights 20)) (sym (take-append-drop 20 s))
-    ∙ fields-append widths (eights 20) (take 20 s) (drop 20 s) (bytes-drop 20 s b) (λ i. total (eights (sym rest i))))
+    ∙ ap (fieldsIn (widths ++ eights 20)) (sym (take-append-drop 21 s))
+    ∙ fields-append widths (eights 20) (take 21 s) (drop 21 s) (bytes-drop 21 s b) (λ i. total (eights (sym rest i))))
 
 module _ (x : Session) where
   pub bytes-of : Bytes (bytesOf x)
@@ -67,9 +67,9 @@ module _ (x : Session) where
   bytes-of =
       let own = join widths (fieldsOf x) in
       let behind = join consist.widths (consist.fieldsOf (x .consist)) in
-      sealed-bytes (split (eights 20) own ++ split (eights 16) behind) (append-bytes (split (eights 20) own) (split (eights 16) behind) (split-bytes 20 own) (split-bytes 16 behind))
+      sealed-bytes (split (eights 21) own ++ split (eights 16) behind) (append-bytes (split (eights 21) own) (split (eights 16) behind) (split-bytes 21 own) (split-bytes 16 behind))
 
-  pub size-of : length (bytesOf x) ≡ 40
+  pub size-of : length (bytesOf x) ≡ 41
   unfolding bytesOf sealed consist.bytesOf
   size-of = refl
 
@@ -80,7 +80,7 @@ module _ (x : Session) where
   module _ (o : isOpen x ≡ true) where
     fields-back : fieldsAt (bytesOf x) ≡ fieldsOf x
     unfolding bytesOf sealed
-    fields-back = fields-at (bytesOf x) bytes-of size-of ∙ fields-of-bytes 20 widths refl (fieldsOf x) (fits x o)
+    fields-back = fields-at (bytesOf x) bytes-of size-of ∙ fields-of-bytes 21 widths refl (fieldsOf x) (fits x o)
 
     consist-back : consist.consistIn (consistAt (bytesOf x)) ≡ x .consist
     unfolding bytesOf sealed consist.consistIn consist.bytesOf
@@ -95,8 +95,8 @@ module _ (x : Session) where
     a-record : noRecord (bytesOf x) ≡ false
     unfolding noRecord wrongLength
     a-record =
-        rw (eq-eqb (length (bytesOf x)) 40 size-of, seal-of)
-        (subst (λ (fs : List ℕ). not (eqb (getD fs 0 0) mark) || ltb 5 (getD fs 3 0) ≡ false) (sym fields-back) (le-ltb 5 _ (number-most (x .brake .state))))
+        rw (eq-eqb (length (bytesOf x)) 41 size-of, seal-of)
+        (subst (λ (fs : List ℕ). not (eqb (getD fs 0 0) mark) || ltb 5 (getD fs 4 0) ≡ false) (sym fields-back) (le-ltb 5 _ (number-most (x .brake .state))))
 
     pub bytes-read : readSession (bytesOf x) ≡ answer Accepted x
     unfolding noSession
@@ -106,7 +106,7 @@ pub written-reads-back : WrittenReadsBack
 unfolding WrittenReadsBack bytesOf sealed consist.bytesOf
 written-reads-back x out h =
     let i = write-inv x out h in
-    (λ j. readSession (take 40 (write-accepted x out (i .0) (i .1) j .1))) ∙ bytes-read x (i .0)
+    (λ j. readSession (take 41 (write-accepted x out (i .0) (i .1) j .1))) ∙ bytes-read x (i .0)
 
 pub bytes-tell : BytesTell
 unfolding BytesTell
@@ -115,27 +115,27 @@ bytes-tell x y o p h = sym (stands x o) ∙ ap sessionIn h ∙ stands y p
 -- ---- the bits of what is accepted
 
 -- the fields of a number that begins with the mark and has a state's number
-to-fields : (n : ℕ) (c : Consist) → (getD (split widths n) 0 0 ≡ mark) × (getD (split widths n) 3 0 ≤ 5) → fieldsOf (ofFields (split widths n) c) ≡ split widths n
+to-fields : (n : ℕ) (c : Consist) → (getD (split widths n) 0 0 ≡ mark) × (getD (split widths n) 4 0 ≤ 5) → fieldsOf (ofFields (split widths n) c) ≡ split widths n
 to-fields n c h =
     let fs = split widths n in
-    let sampled = to-bit (getD fs 2 0) (split-fit widths n .1 .1 .0) in
-    let state = to-number (getD fs 3 0) (h .1) in
-    λ i. sym (h .0) i ∷ getD fs 1 0 ∷ sampled i ∷ state i ∷ getD fs 4 0 ∷ getD fs 5 0 ∷ getD fs 6 0 ∷ getD fs 7 0 ∷ getD fs 8 0 ∷ getD fs 9 0 ∷ getD fs 10 0 ∷ getD fs 11 0 ∷ []
+    let sampled = to-bit (getD fs 3 0) (split-fit widths n .1 .1 .1 .0) in
+    let state = to-number (getD fs 4 0) (h .1) in
+    λ i. sym (h .0) i ∷ getD fs 1 0 ∷ getD fs 2 0 ∷ sampled i ∷ state i ∷ getD fs 5 0 ∷ getD fs 6 0 ∷ getD fs 7 0 ∷ getD fs 8 0 ∷ getD fs 9 0 ∷ getD fs 10 0 ∷ getD fs 11 0 ∷ getD fs 12 0 ∷ []
 
 same-bits : (s : List ℕ) → Bytes s → IsRecord s → bytesOf (sessionIn s) ≡ s
 unfolding sessionIn bytesOf consist.consistIn consist.bytesOf FoundSealed
 same-bits s b r =
     let c = consist.consistIn (consistAt s) in
     let at = fields-at s b (r .size) in
-    let k : length (take 20 s) ≡ 20 = simp length-take (omega (arith, r .size)) in
+    let k : length (take 21 s) ≡ 21 = simp length-take (omega (arith, r .size)) in
     let m : length (consistAt s) ≡ 16 = simp (length-take, length-drop) (omega (arith, r .size)) in
     let own =
-    (λ i. bytesFrom 20 widths (fieldsOf (ofFields (at i) c)))
-    ∙ ap (bytesFrom 20 widths) (to-fields (num (take 20 s)) c (subst (λ (fs : List ℕ). (getD fs 0 0 ≡ mark) × (getD fs 3 0 ≤ 5)) at (r .marked, r .state)))
-    ∙ bytes-of-fields 20 widths refl (take 20 s) (bytes-take 20 s b) k in
+    (λ i. bytesFrom 21 widths (fieldsOf (ofFields (at i) c)))
+    ∙ ap (bytesFrom 21 widths) (to-fields (num (take 21 s)) c (subst (λ (fs : List ℕ). (getD fs 0 0 ≡ mark) × (getD fs 4 0 ≤ 5)) at (r .marked, r .state)))
+    ∙ bytes-of-fields 21 widths refl (take 21 s) (bytes-take 21 s b) k in
     ap sealed
-    (ap₂ _++_ own (bytes-of-fields 16 consist.widths refl (consistAt s) (bytes-take 16 (drop 20 s) (bytes-drop 20 s b)) m)
-    ∙ sym (take-add 20 16 s)
+    (ap₂ _++_ own (bytes-of-fields 16 consist.widths refl (consistAt s) (bytes-take 16 (drop 21 s) (bytes-drop 21 s b)) m)
+    ∙ sym (take-add 21 16 s)
     ∙ (λ i. take (sym (r .size) i - 4) s))
     ∙ sym (found-sealed s b (r .seal))
 
@@ -145,4 +145,4 @@ accepted-writes-back s out b room h =
     let i = read-inv s h in
     (λ j. writeSession (kept (h j) (sessionIn s) noneOpen) out)
     ∙ write-accepted (sessionIn s) out (i .1) room
-    ∙ (λ j. (Accepted, same-bits s b (i .0) j ++ drop 40 out))
+    ∙ (λ j. (Accepted, same-bits s b (i .0) j ++ drop 41 out))

@@ -8,7 +8,9 @@ pub mod Tested
 pub mod Forces
 pub mod Compare
 pub mod Offsets
+pub mod Alongside
 pub mod Approaches
+pub mod Emergency
 pub mod ProfileFigures
 pub mod SampleFigures
 pub mod BrakeFigures

@@ -9,6 +9,8 @@ use Rattle.brake.specs.declared.State.the-variants.{Charged, ApplyingService, H
 use Rattle.brake.specs.declared.Brake.{Brake}
 use Rattle.brake.specs.Brake.{atOpening}
 use Rattle.reading.specs.Readings.{nominalOf}
+use Rattle.air.specs.Air.{airOf}
+use Rattle.air.specs.Emergency.{emergencyAir}
 use Rattle.update.specs.Rules.{updateOf}
 
 -- a brake that has had a sample
@@ -65,3 +67,9 @@ pub record BrakeFigures : Type 0 where
   pub emergency-held : updateOf train (brake ApplyingEmergency 9000 7000 7000 7000 0 5000 5000 10) 11 5000 (Present 5000) ≡ brake HoldingEmergency 9000 7000 7000 7000 0 5000 5000 11
   -- in state 4 release starts charging
   pub emergency-released : updateOf train (brake HoldingEmergency 9000 7714 7712 7714 46 5000 5000 10) 11 5101 (Present 5101) ≡ brake Charging 5101 7714 0 7714 46 5101 5101 11
+  -- an emergency behind the penalty: of a charged train, and with nominal at 8,000, equalization is taken from A as it was
+  pub behind-charged : emergencyAir train (brake Charged 9000 9000 0 0 0 9000 9000 10) ≡ airOf (brake ApplyingEmergency 9000 9000 0 7714 129 9000 9000 10)
+  pub behind-nominal : emergencyAir train (brake Charging 9000 9000 0 6428 85 8000 6000 10) ≡ airOf (brake ApplyingEmergency 9000 8416 0 7214 121 8000 6000 10)
+  -- in states 3 and 4 all is as it is held
+  pub behind-applying : emergencyAir train (brake ApplyingEmergency 9000 8166 5000 7714 46 8000 6000 10) ≡ airOf (brake ApplyingEmergency 9000 8166 5000 7714 46 8000 6000 10)
+  pub behind-holding : emergencyAir train (brake HoldingEmergency 9000 7714 7712 7714 46 8000 6000 10) ≡ airOf (brake HoldingEmergency 9000 7714 7712 7714 46 8000 6000 10)

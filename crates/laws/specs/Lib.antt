@@ -11,6 +11,7 @@ pub mod Tested
 -- the comparison behind demand 3
 pub mod Compare
 pub mod Approaches
+pub mod Emergency
 -- figures by computation
 pub mod ProfileFigures
 pub mod SampleFigures

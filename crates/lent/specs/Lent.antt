@@ -29,11 +29,11 @@ sampleRules session sample profile targets decision =
 unfoldable pub openBytes : (consist session : List ℕ) → ℕ × List ℕ
 openBytes consist session = told (written (lowest (openRules consist session)) (bytesOf (openedWith (consistIn consist))) session)
 
--- what a sample call tells and leaves: the number, the session's bytes and the decision's
+-- what a sample call tells and leaves: the number, the session's bytes and the decisions'
 abbrev pub Sampled : Type 0
 Sampled = ℕ × List ℕ × List ℕ
 
--- the record of the session from now on, and the decision
+-- the record of the session from now on, and the decisions
 abbrev pub callBytes : Answer × List ℕ → List ℕ → Sampled
 callBytes answer session =
     (numberOfVerdict (answer .0 .verdict), written (answer .0 .verdict) (bytesOf (answer .0 .session)) session .1, answer .1)

@@ -18,7 +18,7 @@ pub fn open(session: &mut [u8], consist: &[u8]) -> u8
     refusal::verdict_number(verdict)
 }
 
-// Judges a sample, with the profile and the targets lent for it, moves the session on and writes the decision to the start of `decision`.
+// Judges a sample, with the profile and the targets lent for it, moves the session on and writes the two decisions to the start of `decision`.
 pub fn sample(
     session: &mut [u8],
     sample: &[u8],

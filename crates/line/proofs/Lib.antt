@@ -2,4 +2,5 @@
 pub mod Decimal
 pub mod Put
 pub mod Spaced
+pub mod Fits
 pub mod Unique

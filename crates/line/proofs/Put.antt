@@ -6,12 +6,12 @@ use native.Mathlib.Nat.{sub-zero}
 use mathlib.Core.List.{List, [], _∷_, _++_, append-assoc}
 use lib.ListN.{length, take, drop, set, take-append-drop, length-append, length-take, length-drop}
 use lib.Seq.{length-take-le, take-append-le, take-take, drop-at, set-split}
-use Rattle.line.specs.Line.{putBefore, putLast}
+use Rattle.line.specs.Line.{putBefore}
 
 -- no text
-pub put-none : (out : List ℕ) → (length out, out) ≡ putLast [] out
+pub put-none : (end : ℕ) (out : List ℕ) → (end, out) ≡ putBefore [] end out
 unfolding putBefore
-put-none out = rw (sub-zero (length out)) (ap (λ (l : List ℕ). (length out, l)) (sym (take-append-drop (length out) out)))
+put-none end out = rw (sub-zero end) (ap (λ (l : List ℕ). (end, l)) (sym (take-append-drop end out)))
 
 module _ (end : ℕ) (out : List ℕ) (inside : end ≤ length out) where
   -- a byte

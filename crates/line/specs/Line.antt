@@ -1,4 +1,4 @@
--- What the session program prints: a line for a decision, and one for a refusal. Definitions only.
+-- What the session program prints: a line for each decision of a sample, and one for a refusal. Definitions only.
 use Prim.Native.Nat.{ℕ, zero, suc, _+_, _-_, _*_, _/_, _%_}
 use mathlib.Core.List.{List, [], _∷_, _++_}
 use mathlib.Core.Bool.{Bool, true, false}
@@ -10,7 +10,7 @@ use Rattle.refusal.specs.declared.Verdict.the-variants.{Accepted, Refused}
 use Rattle.refusal.specs.Number.{numberOf}
 use Rattle.decision.specs.declared.Decision.{Decision}
 use Rattle.bits.specs.Fields.{bit}
-use Rattle.decision.specs.Decision.{readDecision}
+use Rattle.decision.specs.Decision.{size, readDecision}
 
 -- ---- the text
 
@@ -69,9 +69,16 @@ unlessRefused (Refused r) text = refusalText r
 abbrev pub recordText : Verdict × Decision → List ℕ
 recordText answer = unlessRefused (answer .0) (decisionText (answer .1))
 
--- "Each sample prints one line": that of the record, where the call was accepted
+-- the records that the bytes of a sample's decisions hold: "A second decision record follows the first" (02, R-5)
+abbrev pub firstRecord : List ℕ → List ℕ
+firstRecord s = take size s
+
+abbrev pub secondRecord : List ℕ → List ℕ
+secondRecord s = take size (drop size s)
+
+-- "Each sample prints one line"; of the second record "The session program prints it as a second line alike": both, where the call was accepted
 abbrev pub sampleText : Verdict → List ℕ → List ℕ
-sampleText v s = unlessRefused v (recordText (readDecision s))
+sampleText v s = unlessRefused v (recordText (readDecision (firstRecord s)) ++ recordText (readDecision (secondRecord s)))
 
 -- ---- where it stands: the text before a place of the lent bytes, the place where it begins, and no other byte changed
 
@@ -83,5 +90,9 @@ abbrev pub putLast : List ℕ → List ℕ → ℕ × List ℕ
 putLast text out = putBefore text (length out) out
 
 -- bytes that hold any line: five numbers of 32 bits, so of up to ten digits, each with a byte after it
+abbrev pub lineRoom : ℕ
+lineRoom = 5 * 11
+
+-- bytes that hold a sample's two lines
 abbrev pub room : ℕ
-room = 5 * 11
+room = 2 * lineRoom

@@ -9,13 +9,20 @@ use Rattle.sample.specs.declared.Sample.{Sample}
 use Rattle.sample.specs.Bounds.{Bounded}
 use Rattle.brake.specs.declared.Brake.{Brake}
 use Rattle.brake.specs.Sound as brake
+use Rattle.air.specs.Emergency.{emergencyAir}
 use Rattle.track.specs.Track.{layOf}
 use Rattle.track.specs.Gentle.{Gentle}
+use Rattle.step.specs.declared.Curve.{Curve}
+use Rattle.step.specs.Curve.{emergencyCurve}
 use Rattle.prediction.specs.declared.Listed.{Listed}
 
 -- the targets, place by place
 abbrev pub listedOf : List ℕ → Listed
 listedOf t = record { count = targets.count t; locations = targets.locationsIn t targets.most; speeds = targets.speedsIn t targets.most }
+
+-- the curve of emergency air
+abbrev pub emergencyCurveOf : Consist → Brake → Curve
+emergencyCurveOf c k = let air = emergencyAir c k in emergencyCurve (air .a) (air .b) (air .equalization)
 
 -- what is known of an admitted sample, before the update and after it
 pub record Ready (c : Consist) (k : Brake) (m : Sample) (p : List ℕ) : Type 0 where

@@ -1,13 +1,18 @@
-// One prediction as a sample makes it: the walk from the brake and the sample on, judged by the targets.
+// The predictions that a sample makes: the walk from the brake and the sample on, judged by the targets, and behind a penalty the same by emergency air.
+use air::Air;
 use brake::Brake;
 use consist::Consist;
+use profile::Segment;
 use sample::Sample;
 use step::Curve;
 use targets::Target;
 use track::Track;
 ghost use mathlib.Core.Path.{_≡_};
-ghost use Rattle.prediction.specs.Prediction.{approachOf, outcomeOf};
-ghost use Rattle.prediction.specs.Steps.{listedOf, Ready};
+ghost use Rattle.track.specs.Steps.{trackOf};
+ghost use Rattle.walk.specs.Range.{Walkable};
+ghost use Rattle.judge.specs.Emergency.{emergencyStop};
+ghost use Rattle.prediction.specs.Prediction.{approachOf, emergencyOver, emergencyOf, outcomeOf};
+ghost use Rattle.prediction.specs.Steps.{listedOf, emergencyCurveOf, Ready};
 
 // The targets of a call, place by place; zeros past the last.
 pub struct Listed {
@@ -16,10 +21,12 @@ pub struct Listed {
     pub speeds: [u16; Target::MOST],
 }
 
-// The stopping location, and the cause that is called for, 0 for none.
+// The stopping location, and the cause that is called for, 0 for none; and the same of emergency, both 0 where no penalty stands.
 pub struct Outcome {
     pub stop: u32,
     pub called: u8,
+    pub emergency_stop: u32,
+    pub emergency_called: u8,
 }
 
 fn list_targets(t: &[u8]) -> Listed
@@ -41,29 +48,87 @@ fn list_targets(t: &[u8]) -> Listed
     }
 }
 
-// Under a penalty application, from the pressures of an updated brake.
-pub fn of_sample(c: Consist, k: Brake, m: Sample, p: &[u8], t: &[u8]) -> Outcome
+// Where emergency air stops the train, over a track whose parts are lent.
+fn stop_in_emergency<'a>(
+    c: Consist,
+    k: Brake,
+    m: Sample,
+    count: usize,
+    starts: &'a [u32; Segment::MOST],
+    grades: &'a [i16; Segment::MOST],
+    curvatures: &'a [u16; Segment::MOST],
+) -> u32
+    requires { ⌜ Walkable c (emergencyCurveOf c k) (trackOf count (now starts) (now grades) (now curvatures)) (m .head) (m .speed) ⌝ }
+    ensures { λ r. ⌜ r ≡ emergencyStop (emergencyOver c k m (trackOf count (now (starts .entry)) (now (grades .entry)) (now (curvatures .entry)))) ⌝ }
+{
+    let air = Air::in_emergency(k, c);
+    let curve = Curve::emergency(air.a, air.b, air.equalization);
+    // no target's speed is asked for
+    let none = [0u16; Target::MOST];
+    let found = walk::predict(
+        c,
+        curve,
+        count,
+        starts,
+        grades,
+        curvatures,
+        m.head,
+        m.speed,
+        none,
+    );
+    found.stop
+}
+
+// From an updated brake: under a penalty application, and, where a penalty stands or is called for, under emergency air.
+pub fn of_sample(c: Consist, k: Brake, m: Sample, p: &[u8], t: &[u8], stood: u8) -> Outcome
     requires { ⌜ Ready c k m (now p) ⌝ }
-    ensures { λ r. ⌜ r ≡ outcomeOf (approachOf c k m (now (p .entry))) (now (t .entry)) ⌝ }
+    ensures { λ r. ⌜ r ≡ outcomeOf (approachOf c k m (now (p .entry))) (emergencyOf c k m (now (p .entry))) stood (now (t .entry)) ⌝ }
 {
     let curve = Curve::penalty(c, k.a, k.b);
     let track = Track::laid(p);
+    let starts = track.starts;
+    let grades = track.grades;
+    let curvatures = track.curvatures;
     let targets = list_targets(t);
+    let count = targets.count;
     let locations = targets.locations;
     let speeds = targets.speeds;
-    let found = walk::predict(c, curve, track, m.head, m.speed, speeds);
+    let found = walk::predict(
+        c,
+        curve,
+        track.count,
+        &starts,
+        &grades,
+        &curvatures,
+        m.head,
+        m.speed,
+        speeds,
+    );
+    let stop = found.stop;
     let arrivals = found.arrivals;
     let called = judge::cause(
         c.offset,
         m.head,
         m.speed,
-        targets.count,
+        count,
         locations,
         speeds,
         arrivals,
     );
+    if judge::standing(stood, called) == 0 {
+        return Outcome {
+            stop,
+            called,
+            emergency_stop: 0,
+            emergency_called: 0,
+        };
+    }
+    let emergency_stop = stop_in_emergency(c, k, m, track.count, &starts, &grades, &curvatures);
+    let emergency_called = judge::emergency_cause(m.head, count, locations, speeds, emergency_stop);
     Outcome {
-        stop: found.stop,
+        stop,
         called,
+        emergency_stop,
+        emergency_called,
     }
 }

@@ -45,7 +45,8 @@ fn rear_taken(k: Brake, front: u16, rear: RearPressure) -> u16
     }
 }
 
-fn nominal(set: u16, front: u16, rear: u16) -> u16
+// The set pressure less half of what the pipe loses from front to rear.
+pub fn nominal(set: u16, front: u16, rear: u16) -> u16
     ensures { λ r. ⌜ r ≡ nominalOf set front rear ⌝ }
 {
     whole::above(set as u64, whole::above(front as u64, rear as u64) / 2) as u16

@@ -68,7 +68,7 @@ session-is x f =
     let consist = uint w16 c₀ ⨾ uint w16 c₁ ⨾ uint w16 c₂ ⨾ uint w16 c₃ ⨾ uint w32 c₄ ⨾ uint w32 c₅ ⨾ uint w16 c₆ ⨾ uint w16 c₇ ⨾ uint w16 c₈ ⨾ end in
     let brake = uint w16 k₁ ⨾ uint w16 k₂ ⨾ uint w16 k₃ ⨾ uint w16 k₄ ⨾ uint w16 k₅ ⨾ uint w16 k₆ ⨾ uint w16 k₇ ⨾ uint w32 k₈ ⨾ bool (x .brake .sampled) ⨾ end in
     let fields = bool (x .opened) ⨾ owes consist-type.the-type consist-value.the-laws (x .consist) consist
-    ⨾ owes brake-type.the-type brake-value.the-laws (x .brake) (state-is (x .brake .state), brake) ⨾ uint w8 (f .2) ⨾ end in
+    ⨾ owes brake-type.the-type brake-value.the-laws (x .brake) (state-is (x .brake .state), brake) ⨾ uint w8 (f .2) ⨾ uint w8 (f .3) ⨾ end in
     let is = owes session-type.the-type session-value.the-laws x fields in
     subst (λ (us : List Val). Is session-type.the-row x us) (session-value.lowers .val-is x _ is) is
 
@@ -86,12 +86,13 @@ bit-fits true = lit< tt
 
 pub session-fits : (x : Session) (v : Val) → Is session-type.the-row x (v ∷ []) → FitsWords x
 session-fits x v is =
-    let (_, (consist, (brake, (cause, _)))) = owed session-type.the-type session-value.the-laws x (v ∷ []) is in
+    let (_, (consist, (brake, (cause, (emergency, _))))) = owed session-type.the-type session-value.the-laws x (v ∷ []) is in
     let (c₀, (c₁, (c₂, (c₃, (c₄, (c₅, (c₆, (c₇, (c₈, _))))))))) = owed consist-type.the-type consist-value.the-laws (x .consist) _ consist in
     let (_, (k₁, (k₂, (k₃, (k₄, (k₅, (k₆, (k₇, (k₈, _))))))))) = owed brake-type.the-type brake-value.the-laws (x .brake) _ brake in (
       c₀ .1 ⨾ c₁ .1 ⨾ c₂ .1 ⨾ c₃ .1 ⨾ c₄ .1 ⨾ c₅ .1 ⨾ c₆ .1 ⨾ c₇ .1 ⨾ c₈ .1 ⨾ tt,
       state-fits (x .brake .state) ⨾ k₁ .1 ⨾ k₂ .1 ⨾ k₃ .1 ⨾ k₄ .1 ⨾ k₅ .1 ⨾ k₆ .1 ⨾ k₇ .1 ⨾ k₈ .1 ⨾ bit-fits (x .brake .sampled) ⨾ tt,
       cause .1,
+      emergency .1,
     )
 
 -- ---- read back
@@ -128,13 +129,14 @@ sessionIn v =
       record { cars = c 0; axles = c 1; weight = c 2; length = c 3; rated = c 4; application = c 5; recharge = c 6; set = c 7; offset = c 8 },
       number (part (part (part v 2) 0) 0) ∷ k 1 ∷ k 2 ∷ k 3 ∷ k 4 ∷ k 5 ∷ k 6 ∷ k 7 ∷ k 8 ∷ bit (truth (part (part v 2) 9)) ∷ [],
       number (part v 3),
+      number (part v 4),
     )
 
 pub session-read : (x : Session) → sessionIn (session-value.lowered x) ≡ sessionTold x
 unfolding part number truth sessionIn
 session-read x =
     let k = x .brake in
-    ap (λ (n : ℕ). (x .opened, x .consist, n ∷ k .hold ∷ k .a ∷ k .b ∷ k .equalization ∷ k .fall ∷ k .«last_front» ∷ k .«last_rear» ∷ k .«last_time» ∷ bit (k .sampled) ∷ [], x .cause))
+    ap (λ (n : ℕ). (x .opened, x .consist, n ∷ k .hold ∷ k .a ∷ k .b ∷ k .equalization ∷ k .fall ∷ k .«last_front» ∷ k .«last_rear» ∷ k .«last_time» ∷ bit (k .sampled) ∷ [], x .cause, x .emergency))
     (state-read (k .state))
   where
     state-read : (s : State) → number (part (state-value.lowered s) 0) ≡ stateNumber s

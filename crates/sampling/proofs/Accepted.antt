@@ -1,24 +1,25 @@
 -- What an admitted sample makes of the session, put together from its steps. Assumes nothing.
 use mathlib.Core.Path.{_≡_, ap, _∙_}
-use mathlib.Core.Bool.{true, not, cond}
+use mathlib.Core.Bool.{true, false}
 use mathlib.Core.List.{List}
 use Prim.Native.Nat.{ℕ}
 use native.Mathlib.Omega.{arith}
-use lib.Dec.{eqb}
 use Rattle.sample.specs.declared.Sample.{Sample}
 use Rattle.sample.specs.declared.RearPressure.{RearPressure}
 use Rattle.sample.specs.declared.RearPressure.the-variants.{Present, Lost}
 use Rattle.sample.specs.Bounds.{RearBounded}
+use Rattle.decision.specs.declared.Decision.{Decision}
 use Rattle.brake.specs.declared.Brake.{Brake}
 use Rattle.brake.specs.State.{stateNumber}
+use Rattle.judge.specs.Judge.{standing}
 use Rattle.update.specs.Sound.{rearMost}
 use Rattle.update.proofs.Sound.{updated-sound}
 use Rattle.prediction.specs.declared.Outcome.{Outcome}
-use Rattle.prediction.specs.Prediction.{approachOf, outcomeOf}
+use Rattle.prediction.specs.Prediction.{approachOf, emergencyOf, outcomeOf}
 use Rattle.prediction.specs.Steps.{Ready}
 use Rattle.session.specs.declared.Session.{Session}
 use Rattle.sampling.specs.declared.After.{After}
-use Rattle.sampling.specs.Sample.{brakeAfter, prediction, causeAfter}
+use Rattle.sampling.specs.Sample.{brakeAfter, prediction, causeAfter, emergencyAfter, decidedWith}
 use Rattle.sampling.specs.Steps.{afterOf}
 
 rear-most : (r : RearPressure) → RearBounded r → rearMost r
@@ -37,18 +38,24 @@ predictable x m p h = record {
   head = h .head;
 }
 
-pub after-is : (x : Session) (m : Sample) (p t : List ℕ) (k : Brake) (f : Outcome) (cause state : ℕ)
+pub after-is : (x : Session) (m : Sample) (p t : List ℕ) (k : Brake) (f : Outcome) (cause called state : ℕ) (d e : Decision)
     → k ≡ brakeAfter x m
-    → f ≡ outcomeOf (approachOf (x .consist) k m p) t
-    → cause ≡ cond (eqb (x .cause) 0) (f .called) (x .cause)
+    → f ≡ outcomeOf (approachOf (x .consist) k m p) (emergencyOf (x .consist) k m p) (x .cause) t
+    → cause ≡ standing (x .cause) (f .called)
+    → called ≡ standing (x .emergency) (f .«emergency_called»)
     → state ≡ stateNumber (k .state)
+    → d ≡ decidedWith false (m .time) state cause (f .stop)
+    → e ≡ decidedWith true (m .time) state called (f .«emergency_stop»)
     → _≡_ {A = After} (record {
-      session = record { opened = true; consist = x .consist; brake = k; cause = cause };
-      decision = record { time = m .time; state = state; penalty = not (eqb cause 0); cause = cause; stop = f .stop };
+      session = record { opened = true; consist = x .consist; brake = k; cause = cause; emergency = called };
+      decision = d;
+      emergency = e;
     }) (afterOf x m p t)
-unfolding causeAfter
-after-is x m p t k f cause state hk hf hs hn =
-    let found : f ≡ prediction x m p t = hf ∙ ap (λ (b : Brake). outcomeOf (approachOf (x .consist) b m p) t) hk in
-    let stands : cause ≡ causeAfter x m p t = hs ∙ ap (λ (g : Outcome). cond (eqb (x .cause) 0) (g .called) (x .cause)) found in
+unfolding causeAfter emergencyAfter
+after-is x m p t k f cause called state d e hk hf hs hc hn hd he =
+    let found : f ≡ prediction x m p t =
+    hf ∙ ap (λ (b : Brake). outcomeOf (approachOf (x .consist) b m p) (emergencyOf (x .consist) b m p) (x .cause) t) hk in
+    let stands : cause ≡ causeAfter x m p t = hs ∙ ap (λ (g : Outcome). standing (x .cause) (g .called)) found in
+    let stays : called ≡ emergencyAfter x m p t = hc ∙ ap (λ (g : Outcome). standing (x .emergency) (g .«emergency_called»)) found in
     let number : state ≡ stateNumber (brakeAfter x m .state) = hn ∙ ap (λ (b : Brake). stateNumber (b .state)) hk in
-    rw (hk, number, stands, found)
+    rw (hd, he, hk, number, stands, stays, found)

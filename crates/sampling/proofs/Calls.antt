@@ -15,7 +15,7 @@ use Rattle.decision.specs.Decision as decision
 use Rattle.session.specs.declared.Session.{Session}
 use Rattle.session.specs.declared.Answer.{Answer}
 use Rattle.session.specs.Session.{answer, refusedWith}
-use Rattle.sampling.specs.Sample.{sampleIn, rules, decisionOf, sessionAfter, sampleCall}
+use Rattle.sampling.specs.Sample.{sampleIn, rules, decisionOf, emergencyDecisionOf, decisionsOf, sessionAfter, sampleCall}
 use Rattle.sampling.specs.Steps.{rulesBefore}
 
 module _ (x : Session) (s p t out : List ℕ) where
@@ -25,23 +25,24 @@ module _ (x : Session) (s p t out : List ℕ) where
 
   -- the call by its verdict
   pub answered : (v : Verdict) → lowest (rules x s p t out) ≡ v
-      → sampleCall x s p t out ≡ (moved v, written v (decision.bytesOf (decisionOf x (sampleIn s) p t)) out .1)
+      → sampleCall x s p t out ≡ (moved v, written v (decisionsOf x (sampleIn s) p t) out .1)
   unfolding sampleCall
-  answered v h = ap (λ (w : Verdict). (moved w, written w (decision.bytesOf (decisionOf x (sampleIn s) p t)) out .1)) h
+  answered v h = ap (λ (w : Verdict). (moved w, written w (decisionsOf x (sampleIn s) p t) out .1)) h
 
   pub call-before : (r : Refusal) → lowest (rulesBefore x s p t) ≡ Refused r → sampleCall x s p t out ≡ (refusedWith x r, out)
   call-before r h = answered (Refused r) (append-given (rulesBefore x s p t) _ r tt h)
 
   -- past what is judged before the walk
   module _ (h : lowest (rulesBefore x s p t) ≡ Accepted) where
-    -- what the writer of a decision in range says is handed on
-    pub call-written : decision.outOfRange (decisionOf x (sampleIn s) p t) ≡ false
-        → (v : Verdict) (last : List ℕ) → (v, last) ≡ decision.writeDecision (decisionOf x (sampleIn s) p t) out → sampleCall x s p t out ≡ (moved v, last)
-    unfolding decision.writeDecision
-    call-written fine v last w =
-        let d = decisionOf x (sampleIn s) p t in
-        let e : decision.writeDecision d out ≡ written (lowest (rules x s p t out)) (decision.bytesOf d) out =
-        ap (λ (u : Verdict). written u (decision.bytesOf d) out) (passed _ _ _ fine ∙ sym (append-passed (rulesBefore x s p t) _ h)) in
+    -- what the writer of two decisions in range says is handed on
+    pub call-written : decision.outOfRange (decisionOf x (sampleIn s) p t) ≡ false → decision.outOfRange (emergencyDecisionOf x (sampleIn s) p t) ≡ false
+        → (v : Verdict) (last : List ℕ) → (v, last) ≡ decision.writeBoth (decisionOf x (sampleIn s) p t) (emergencyDecisionOf x (sampleIn s) p t) out
+        → sampleCall x s p t out ≡ (moved v, last)
+    unfolding decision.writeBoth
+    call-written fine fine′ v last w =
+        let both = decisionsOf x (sampleIn s) p t in
+        let e : decision.writeBoth (decisionOf x (sampleIn s) p t) (emergencyDecisionOf x (sampleIn s) p t) out ≡ written (lowest (rules x s p t out)) both out =
+        ap (λ (u : Verdict). written u both out) (passed _ _ _ fine ∙ passed _ _ _ fine′ ∙ sym (append-passed (rulesBefore x s p t) _ h)) in
         let found = w ∙ e in
-        let a : v ≡ lowest (rules x s p t out) = (λ i. found i .0) ∙ written-verdict (lowest (rules x s p t out)) (decision.bytesOf d) out in
+        let a : v ≡ lowest (rules x s p t out) = (λ i. found i .0) ∙ written-verdict (lowest (rules x s p t out)) both out in
         answered _ refl ∙ ap₂ (λ (u : Verdict) (l : List ℕ). (moved u, l)) (sym a) (sym (λ i. found i .1))

@@ -16,6 +16,7 @@ use Rattle.decision.specs.Decision as decision
 use Rattle.brake.specs.Brake.{isAtOpening}
 use Rattle.reading.specs.Readings as readings
 use Rattle.air.specs.Rules as air
+use Rattle.air.specs.Emergency.{emergencyAir}
 use Rattle.update.specs.Rules as rules
 use Rattle.brake.specs.Sound as sound
 use Rattle.track.specs.Track as track
@@ -24,11 +25,12 @@ use Rattle.step.specs.Step as step
 use Rattle.walk.specs.Walk as walk
 use Rattle.judge.specs.Judge as judge
 use Rattle.judge.specs.Approach as approach
+use Rattle.judge.specs.Emergency as emergency
 use Rattle.admission.specs.Table.{wrongTime, notCovered}
 use Rattle.session.specs.Session.{isOpen}
 use Rattle.session.specs.Open.{openOf}
-use Rattle.sampling.specs.Sample.{causeAfter, sampleCall}
+use Rattle.sampling.specs.Sample.{causeAfter, emergencyAfter, sampleCall}
 
 unfoldable pub computing : Unit {0}
-unfolding ofBits lowest noRoom floorDiv ceilDiv digits rootOf isOpen openOf wrongTime notCovered approach.predictionOf approach.callOf causeAfter sampleCall reading.hundredthsOf reading.isBad consist.consistIn consist.inRange consist.tooLight consist.isSound consist.readConsist table.computing profile.inRange profile.ends targets.inRange sample.rawIn sample.layOut sample.judgeSample wrongLength sample.wrongMark sample.badReading decision.decisionIn decision.bytesOf decision.wrongMark decision.outOfRange decision.readDecision readings.elapsedOf readings.rateOf readings.rearTaken readings.nominalOf readings.readingOf readings.application readings.release readings.emergency air.startEmergency air.startService air.startApplying air.startCharging air.fallInService air.fallInEmergency rules.inCharged rules.recharged rules.inCharging rules.fallOrHold rules.inApplyingService rules.inHoldingService rules.inApplyingEmergency rules.inHoldingEmergency rules.updateOf sound.isSound isAtOpening track.layOf track.feet track.gradeFeet track.curvatureFeet track.gradeUnder track.curvatureUnder curve.dropAt curve.cylinderAt curve.forceAt curve.penaltyCurve step.opposing step.loss step.stepTime step.stepOf walk.walkTo walk.arrivalFor walk.predictOf judge.isJudged judge.offsetFor judge.isCalled judge.firstFrom judge.causeOf isNan
+unfolding ofBits lowest noRoom floorDiv ceilDiv digits rootOf isOpen openOf wrongTime notCovered approach.predictionOf approach.callOf causeAfter emergencyAfter sampleCall reading.hundredthsOf reading.isBad consist.consistIn consist.inRange consist.tooLight consist.isSound consist.readConsist table.computing profile.inRange profile.ends targets.inRange sample.rawIn sample.layOut sample.judgeSample wrongLength sample.wrongMark sample.badReading decision.decisionIn decision.bytesOf decision.bothBytes decision.wrongMark decision.outOfRange decision.readDecision readings.elapsedOf readings.rateOf readings.rearTaken readings.nominalOf readings.readingOf readings.application readings.release readings.emergency air.startEmergency air.startService air.startApplying air.startCharging air.fallInService air.fallInEmergency emergencyAir rules.inCharged rules.recharged rules.inCharging rules.fallOrHold rules.inApplyingService rules.inHoldingService rules.inApplyingEmergency rules.inHoldingEmergency rules.updateOf sound.isSound isAtOpening track.layOf track.feet track.gradeFeet track.curvatureFeet track.gradeUnder track.curvatureUnder curve.dropAt curve.cylinderAt curve.forceAt curve.penaltyCurve curve.emergencyCurve step.opposing step.loss step.stepTime step.stepOf walk.walkTo walk.arrivalFor walk.predictOf judge.isJudged judge.offsetFor judge.isCalled judge.firstFrom judge.causeOf judge.standing judge.isEmergencyCalled judge.emergencyCauseOf emergency.emergencyArrival emergency.emergencyCallOf isNan
 computing = tt

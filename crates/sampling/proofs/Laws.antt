@@ -1,10 +1,12 @@
--- A refused call leaves the session, an open session stays one, the penalty stands. Assumes nothing.
+-- A refused call leaves the session, an open session stays one, a penalty and an emergency stand. Assumes nothing.
 use mathlib.Core.Path.{_≡_, refl, sym, ap, _∙_, subst}
-use mathlib.Core.Bool.{Bool, true, false, _||_}
+use mathlib.Core.Bool.{Bool, true, false, not, cond, _||_, or-true}
 use mathlib.Core.List.{List, [], _∷_}
-use Prim.Native.Nat.{ℕ, _≤_, _<_}
+use Prim.Native.Nat.{ℕ, zero, suc, _≤_, _<_}
+use native.Mathlib.Nat.{zero-lt-suc}
 use native.Mathlib.Omega.{arith}
-use borrow.Author.Tests.{le-leb, ne-eqb}
+use lib.Dec.{eqb}
+use borrow.Author.Tests.{le-leb, ne-eqb, eqb-true}
 use Rattle.refusal.specs.Lowest.{lowest}
 use Rattle.refusal.specs.Steps.{kept}
 use Rattle.refusal.specs.declared.Verdict.{Verdict}
@@ -17,19 +19,21 @@ use Rattle.consist.proofs.Sound as consist-sound
 use Rattle.targets.specs.Targets as targets
 use Rattle.sample.specs.declared.Sample.{Sample}
 use Rattle.update.specs.Rules.{updateOf}
+use Rattle.judge.specs.Judge.{standing}
+use Rattle.prediction.specs.Prediction.{behind}
 use Rattle.brake.specs.Sound as brake
 use Rattle.brake.proofs.Sound.{at-opening-sound}
 use Rattle.brake.proofs.Tested as brake-tested
 use Rattle.admission.proofs.Admitted.{none-holds}
 use Rattle.session.specs.declared.Session.{Session}
-use Rattle.session.specs.Session.{isFresh, isOpen}
+use Rattle.session.specs.Session.{isFresh, isBehind, isOpen}
 use Rattle.session.specs.Open.{openedWith, openOf}
-use Rattle.sampling.specs.Sample.{sampleIn, brakeAfter, causeAfter, sessionAfter, rules, sampleCall}
+use Rattle.sampling.specs.Sample.{sampleIn, brakeAfter, causeAfter, emergencyAfter, sessionAfter, rules, sampleCall}
 use Rattle.sampling.specs.Steps.{rulesBefore}
-use Rattle.sampling.specs.Laws.{OpenUnchanged, SampleUnchanged, OpensOpen, StaysOpen, FreshOpening, afterSamples, CauseStands}
+use Rattle.sampling.specs.Laws.{OpenUnchanged, SampleUnchanged, OpensOpen, StaysOpen, FreshOpening, afterSamples, causeHeld, CauseStands}
 use Rattle.session.proofs.Opened.{opened}
 use Rattle.sampling.proofs.Accepted.{predictable}
-use Rattle.sampling.proofs.Admitted.{is-opened, ready, cause-within}
+use Rattle.sampling.proofs.Admitted.{is-opened, ready, cause-within, emergency-within}
 
 -- ---- refused
 
@@ -45,15 +49,16 @@ sample-unchanged x s p t out r h = ap (λ (v : Verdict). kept v (sessionAfter x 
 
 module _ (x : Session) where
   is-open : x .opened ≡ true → consist.isSound (x .consist) ≡ true → brake.Sound (x .consist) (x .brake) → x .cause ≤ targets.most
-      → (x .brake .sampled || isFresh x) ≡ true → isOpen x ≡ true
+      → x .emergency ≤ targets.most → isBehind x ≡ true → (x .brake .sampled || isFresh x) ≡ true → isOpen x ≡ true
   unfolding isOpen
-  is-open o c b k f =
-      rw (o, c, brake-tested.sound-is (x .consist) (x .brake) .1 b, le-leb (x .cause) targets.most k, f)
+  is-open o c b k e behind f =
+      rw (o, c, brake-tested.sound-is (x .consist) (x .brake) .1 b, le-leb (x .cause) targets.most k, le-leb (x .emergency) targets.most e, behind, f)
 
 -- an opening with a consist that is not refused
 opened-open : (c : Consist) → consist.outOfRange c ≡ false → consist.tooLight c ≡ false → isOpen (openedWith c) ≡ true
 opened-open c r w =
-    is-open (openedWith c) refl (consist-sound.sound-is c r w) (at-opening-sound c (consist-sound.sound c r w)) (omega arith) (rw (brake-tested.at-opening-passes c))
+    is-open (openedWith c) refl (consist-sound.sound-is c r w) (at-opening-sound c (consist-sound.sound c r w)) (omega arith) (omega arith) refl
+    (rw (brake-tested.at-opening-passes c))
 
 pub opens-open : OpensOpen
 unfolding OpensOpen openOf readConsist
@@ -66,35 +71,57 @@ sampled : (x : Session) (m : Sample) → brakeAfter x m .sampled ≡ true
 unfolding updateOf
 sampled x m = refl
 
+-- what stood stays
+pub standing-stays : (stood called : ℕ) → 0 < stood → standing stood called ≡ stood
+unfolding standing
+standing-stays stood called h = let n : stood ≡ 0 → ⊥ = λ e. omega arith in rw (ne-eqb stood 0 n)
+
+-- where no cause stands no emergency stood
+none-stood : (stood cause called : ℕ) → (0 < stood → 0 < cause) → standing cause called ≡ 0 → stood ≡ 0
+none-stood zero cause called h e = refl
+none-stood (suc n) cause called h e = absurd (let some = h (zero-lt-suc n) in omega (arith, standing-stays cause called some))
+
+-- so emergency stays behind the penalty: it is called where a penalty stands by then
+stays-behind : (stood cause called other : ℕ) → (0 < stood → 0 < cause) →
+    let stands = standing cause called in
+    eqb (standing stood (behind stands other)) 0 || not (eqb stands 0) ≡ true
+unfolding standing
+stays-behind stood cause called other h = by (eqb (standing cause called) 0) refl
+  where
+    by : (b : Bool) → eqb (standing cause called) 0 ≡ b → eqb (standing stood (cond b 0 other)) 0 || not b ≡ true
+    by true e = rw (none-stood stood cause called h (eqb-true _ _ e)) refl
+    by false e = or-true (eqb (standing stood other) 0)
+
 pub stays-open : StaysOpen
-unfolding StaysOpen sampleCall
+unfolding StaysOpen sampleCall causeAfter emergencyAfter
 stays-open x s p t out h =
     let m = sampleIn s in
     let b = append-accepted (rulesBefore x s p t) _ h in
     let o = is-opened x s p t b in
     let r = predictable x m p (ready x s p t b) in
     ap (λ (v : Verdict). isOpen (kept v (sessionAfter x m p t) x)) h
-    ∙ is-open (sessionAfter x m p t) refl (o .tested) (r .brake) (cause-within x m p t (o .cause)) (ap (λ (a : Bool). a || isFresh (sessionAfter x m p t)) (sampled x m))
+    ∙ is-open (sessionAfter x m p t) refl (o .tested) (r .brake) (cause-within x m p t (o .cause)) (emergency-within x m p t (o .emergency))
+    (stays-behind (x .emergency) (x .cause) _ _ (o .behind)) (ap (λ (a : Bool). a || isFresh (sessionAfter x m p t)) (sampled x m))
 
 pub fresh-opening : FreshOpening
 unfolding FreshOpening
 fresh-opening x h e =
     let o = opened x h in
     let f = o .fresh e in
-    rw (o .opened, f .0, f .1)
+    rw (o .opened, f .0, f .1, f .2)
 
--- ---- the penalty
+-- ---- the penalty, and emergency
 
-cause-kept : (x : Session) (v : Verdict) (s p t : List ℕ) → 0 < x .cause → kept v (sessionAfter x (sampleIn s) p t) x .cause ≡ x .cause
-unfolding causeAfter
-cause-kept x Accepted s p t h =
-    let n : x .cause ≡ 0 → ⊥ = λ e. omega arith in
-    rw (ne-eqb (x .cause) 0 n)
-cause-kept x (Refused r) s p t h = refl
+cause-kept : (e : Bool) (x : Session) (v : Verdict) (s p t : List ℕ) → 0 < causeHeld e x
+    → causeHeld e (kept v (sessionAfter x (sampleIn s) p t) x) ≡ causeHeld e x
+unfolding causeAfter emergencyAfter
+cause-kept false x Accepted s p t h = standing-stays (x .cause) _ h
+cause-kept true x Accepted s p t h = standing-stays (x .emergency) _ h
+cause-kept e x (Refused r) s p t h = refl
 
 pub cause-stands : CauseStands
 unfolding CauseStands afterSamples sampleCall
-cause-stands x [] h = refl
-cause-stands x (l ∷ ls) h =
-    let e = cause-kept x (lowest (rules x (l .sample) (l .profile) (l .targets) (l .out))) (l .sample) (l .profile) (l .targets) h in
-    cause-stands _ ls (subst (λ (n : ℕ). 0 < n) (sym e) h) ∙ e
+cause-stands e x [] h = refl
+cause-stands e x (l ∷ ls) h =
+    let kept = cause-kept e x (lowest (rules x (l .sample) (l .profile) (l .targets) (l .out))) (l .sample) (l .profile) (l .targets) h in
+    cause-stands e _ ls (subst (λ (n : ℕ). 0 < n) (sym kept) h) ∙ kept

@@ -1,7 +1,7 @@
--- What holds of every session: a refused call leaves it, an open one stays open, the penalty stands.
+-- What holds of every session: a refused call leaves it, an open one stays open, a penalty and an emergency stand.
 -- Statements; proofs/Laws.antt proves them.
 use mathlib.Core.Path.{_≡_}
-use mathlib.Core.Bool.{true, false}
+use mathlib.Core.Bool.{Bool, true, false}
 use mathlib.Core.List.{List, [], _∷_}
 use Prim.Native.Nat.{ℕ, _<_}
 use Rattle.refusal.specs.declared.Refusal.{Refusal}
@@ -46,5 +46,11 @@ unfoldable pub afterSamples : Session → List Lent → Session
 afterSamples x [] = x
 afterSamples x (l ∷ ls) = afterSamples (sampleCall x (l .sample) (l .profile) (l .targets) (l .out) .0 .session) ls
 
+-- the cause of a standing penalty, or, where the question is of emergency, of a standing emergency
+abbrev pub causeHeld : (emergency : Bool) → Session → ℕ
+causeHeld false x = x .cause
+causeHeld true x = x .emergency
+
+-- and R-5: "Emergency is called .. and it stays called."
 unfoldable pub CauseStands : Type 0
-CauseStands = (x : Session) (ls : List Lent) → 0 < x .cause → afterSamples x ls .cause ≡ x .cause
+CauseStands = (e : Bool) (x : Session) (ls : List Lent) → 0 < causeHeld e x → causeHeld e (afterSamples x ls) ≡ causeHeld e x

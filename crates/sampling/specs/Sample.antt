@@ -1,5 +1,5 @@
--- A sample call: its refusals, the update, the prediction, the standing penalty, the decision. Definitions only.
-use mathlib.Core.Bool.{Bool, true, not, cond}
+-- A sample call: its refusals, the update, the prediction, the standing penalty and emergency, the two decisions. Definitions only.
+use mathlib.Core.Bool.{Bool, true, false, not}
 use mathlib.Core.List.{List, _∷_}
 use Prim.Native.Nat.{ℕ}
 use lib.Dec.{eqb}
@@ -14,10 +14,12 @@ use Rattle.decision.specs.Decision as decision
 use Rattle.brake.specs.declared.Brake.{Brake}
 use Rattle.brake.specs.State.{stateNumber}
 use Rattle.update.specs.Rules.{updateOf}
+use Rattle.judge.specs.Judge.{standing}
 use Rattle.judge.specs.Approach.{Approach}
+use Rattle.judge.specs.Emergency.{Emergency}
 use Rattle.admission.specs.Table.{wrongTime, linesOpen}
 use Rattle.prediction.specs.declared.Outcome.{Outcome}
-use Rattle.prediction.specs.Prediction.{approachOf, outcomeOf}
+use Rattle.prediction.specs.Prediction.{approachOf, emergencyOf, outcomeOf}
 use Rattle.session.specs.declared.Session.{Session}
 use Rattle.session.specs.declared.Answer.{Answer}
 use Rattle.session.specs.Session.{isOpen, answer}
@@ -40,23 +42,44 @@ brakeAfter x m = updateOf (x .consist) (x .brake) (m .time) (m .front) (m .rear)
 abbrev pub approach : Session → Sample → List ℕ → Approach
 approach x m p = approachOf (x .consist) (brakeAfter x m) m p
 
+-- R-5: "predict a stop by emergency air too"
+abbrev pub emergency : Session → Sample → List ℕ → Emergency
+emergency x m p = emergencyOf (x .consist) (brakeAfter x m) m p
+
 abbrev pub prediction : Session → Sample → List ℕ → List ℕ → Outcome
-prediction x m p t = outcomeOf (approach x m p) t
+prediction x m p t = outcomeOf (approach x m p) (emergency x m p) (x .cause) t
 
 -- "The cause is the first such target and, like the penalty, stays."
 unfoldable pub causeAfter : Session → Sample → List ℕ → List ℕ → ℕ
-causeAfter x m p t = cond (eqb (x .cause) 0) (prediction x m p t .called) (x .cause)
+causeAfter x m p t = standing (x .cause) (prediction x m p t .called)
+
+-- R-5: "Emergency is called .. and it stays called."
+unfoldable pub emergencyAfter : Session → Sample → List ℕ → List ℕ → ℕ
+emergencyAfter x m p t = standing (x .emergency) (prediction x m p t .«emergency_called»)
 
 -- ---- the answer
 
-abbrev pub decisionOf : Session → Sample → List ℕ → List ℕ → Decision
-decisionOf x m p t = record {
-  time = m .time;
-  state = stateNumber (brakeAfter x m .state);
-  penalty = not (eqb (causeAfter x m p t) 0);
-  cause = causeAfter x m p t;
-  stop = prediction x m p t .stop;
+-- a record: "the penalty bit is 1 exactly when the cause is not 0"
+abbrev pub decidedWith : (emergency : Bool) (time state cause stop : ℕ) → Decision
+decidedWith emergency time state cause stop = record {
+  emergency = emergency;
+  time = time;
+  state = state;
+  penalty = not (eqb cause 0);
+  cause = cause;
+  stop = stop;
 }
+
+abbrev pub decisionOf : Session → Sample → List ℕ → List ℕ → Decision
+decisionOf x m p t = decidedWith false (m .time) (stateNumber (brakeAfter x m .state)) (causeAfter x m p t) (prediction x m p t .stop)
+
+-- R-5: "A second decision record follows the first with mark 0x45, its penalty bit and cause now meaning emergency, its location the emergency stop."
+abbrev pub emergencyDecisionOf : Session → Sample → List ℕ → List ℕ → Decision
+emergencyDecisionOf x m p t =
+    decidedWith true (m .time) (stateNumber (brakeAfter x m .state)) (emergencyAfter x m p t) (prediction x m p t .«emergency_stop»)
+
+abbrev pub decisionsOf : Session → Sample → List ℕ → List ℕ → List ℕ
+decisionsOf x m p t = decision.bothBytes (decisionOf x m p t) (emergencyDecisionOf x m p t)
 
 abbrev pub sessionAfter : Session → Sample → List ℕ → List ℕ → Session
 sessionAfter x m p t = record {
@@ -64,6 +87,7 @@ sessionAfter x m p t = record {
   consist = x .consist;
   brake = brakeAfter x m;
   cause = causeAfter x m p t;
+  emergency = emergencyAfter x m p t;
 }
 
 -- 1 before other lines
@@ -78,9 +102,9 @@ linesOf x s p t out = let m = sampleIn s in linesOpen (x .consist) (wrongTime (x
 abbrev pub rules : Session → (s p t out : List ℕ) → List Rule
 rules x s p t out = openFirst x (linesOf x s p t out)
 
--- answer, session and every byte of the output: a refused call changes nothing; an accepted one "writes the first 8 output bytes only"
+-- answer, session and every byte of the output: a refused call changes nothing; an accepted one writes both records, 16 bytes, and no other
 unfoldable pub sampleCall : Session → List ℕ → List ℕ → List ℕ → List ℕ → Answer × List ℕ
 sampleCall x s p t out =
     let v = lowest (rules x s p t out) in
     let m = sampleIn s in
-    (answer (kept v (sessionAfter x m p t) x) v, written v (decision.bytesOf (decisionOf x m p t)) out .1)
+    (answer (kept v (sessionAfter x m p t) x) v, written v (decisionsOf x m p t) out .1)

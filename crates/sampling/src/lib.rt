@@ -8,16 +8,31 @@ use session::Session;
 ghost use mathlib.Core.Path.{_≡_};
 ghost use Rattle.prediction.specs.Steps.{Ready};
 ghost use Rattle.session.specs.Session.{callTold};
-ghost use Rattle.sampling.specs.Sample.{sampleCall};
+ghost use Rattle.sampling.specs.Sample.{decidedWith, sampleCall};
 ghost use Rattle.sampling.specs.Steps.{afterOf};
 
-// What an admitted sample makes of the session, and what is decided.
+// What an admitted sample makes of the session, what is decided, and what of emergency.
 pub struct After {
     pub session: Session,
     pub decision: Decision,
+    pub emergency: Decision,
 }
 
-// The update, the prediction, the standing penalty, the decision.
+// A record: its bit is set where there is a cause.
+fn decided(emergency: bool, time: u32, state: u8, cause: u8, stop: u32) -> Decision
+    ensures { λ r. ⌜ r ≡ decidedWith emergency time state cause stop ⌝ }
+{
+    Decision {
+        emergency,
+        time,
+        state,
+        penalty: cause != 0,
+        cause,
+        stop,
+    }
+}
+
+// The update, the prediction, the standing penalty and emergency, the two decisions.
 fn advance(x: Session, m: Sample, p: &[u8], t: &[u8]) -> After
     requires { ⌜ Ready (x .consist) (x .brake) m (now p) ⌝ }
     ensures { λ r. ⌜ r ≡ afterOf x m (now (p .entry)) (now (t .entry)) ⌝ }
@@ -26,26 +41,28 @@ fn advance(x: Session, m: Sample, p: &[u8], t: &[u8]) -> After
     let held = x.brake;
     let rear = m.rear;
     let updated = update::updated(held, c, m.time, m.front, rear);
-    let found = prediction::of_sample(c, updated, m, p, t);
-    let cause = if x.cause == 0 { found.called } else { x.cause };
+    let found = prediction::of_sample(c, updated, m, p, t, x.cause);
+    let cause = judge::standing(x.cause, found.called);
+    let called = judge::standing(x.emergency, found.emergency_called);
     let state = updated.state;
-    let decision = Decision {
-        time: m.time,
-        state: brake::state_number(state),
-        penalty: cause != 0,
-        cause,
-        stop: found.stop,
-    };
+    let number = brake::state_number(state);
+    let decision = decided(false, m.time, number, cause, found.stop);
+    let emergency = decided(true, m.time, number, called, found.emergency_stop);
     let session = Session {
         opened: true,
         consist: c,
         brake: updated,
         cause,
+        emergency: called,
     };
-    After { session, decision }
+    After {
+        session,
+        decision,
+        emergency,
+    }
 }
 
-// Judges a sample, with the profile and the targets lent for it, and writes the decision to the front of `out`.
+// Judges a sample, with the profile and the targets lent for it, and writes the two decisions to the front of `out`.
 pub fn sample(x: Session, s: &[u8], p: &[u8], t: &[u8], out: &mut [u8]) -> Answer
     ensures { λ r. ⌜ callTold (r, now (out .exit)) ≡ callTold (sampleCall x (now (s .entry)) (now (p .entry)) (now (t .entry)) (now (out .entry))) ⌝ }
 {
@@ -68,8 +85,9 @@ pub fn sample(x: Session, s: &[u8], p: &[u8], t: &[u8], out: &mut [u8]) -> Answe
     let m = entry.sample;
     let next = advance(x, m, p, t);
     let session = next.session;
-    let decided = next.decision;
-    let written = decision::write(decided, out);
+    let first = next.decision;
+    let second = next.emergency;
+    let written = decision::write_both(first, second, out);
     let Verdict::Accepted = written else {
         return Answer {
             session: x,

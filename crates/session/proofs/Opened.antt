@@ -1,9 +1,11 @@
 -- An open session, as facts. Assumes nothing.
 use mathlib.Core.Path.{_≡_}
-use mathlib.Core.Bool.{Bool, true, false, _&&_, _||_, true≢false}
-use Prim.Native.Nat.{_≤_}
-use lib.Dec.{leb}
-use borrow.Author.Tests.{leb-true, eqb-true}
+use mathlib.Core.Bool.{Bool, true, false, not, _&&_, _||_, true≢false}
+use Prim.Native.Nat.{_≤_, _<_}
+use native.Mathlib.Omega.{arith}
+use native.Mathlib.Nat.{pos-of-ne-zero}
+use lib.Dec.{leb, eqb}
+use borrow.Author.Tests.{leb-true, eqb-true, eqb-false, ne-eqb, not-true}
 use Rattle.bits.proofs.Ranges.{and-true-left, and-true-right}
 use Rattle.consist.specs.Consist as consist
 use Rattle.consist.specs.Sound as sound
@@ -13,7 +15,7 @@ use Rattle.brake.specs.Brake.{atOpening, isAtOpening}
 use Rattle.brake.specs.Sound as brake
 use Rattle.brake.proofs.Tested as brake-tested
 use Rattle.session.specs.declared.Session.{Session}
-use Rattle.session.specs.Session.{isFresh, isOpen}
+use Rattle.session.specs.Session.{isFresh, isBehind, isOpen}
 
 -- an open session, as facts
 pub record Opened (x : Session) : Type 0 where
@@ -22,26 +24,40 @@ pub record Opened (x : Session) : Type 0 where
   pub consist : sound.Sound (x .consist)
   pub brake : brake.Sound (x .consist) (x .brake)
   pub cause : x .cause ≤ targets.most
-  pub fresh : x .brake .sampled ≡ false → (x .brake ≡ atOpening (x .consist)) × (x .cause ≡ 0)
+  pub emergency : x .emergency ≤ targets.most
+  pub behind : 0 < x .emergency → 0 < x .cause
+  pub fresh : x .brake .sampled ≡ false → (x .brake ≡ atOpening (x .consist)) × (x .cause ≡ 0) × (x .emergency ≡ 0)
 
 -- one of two
 other : (a b : Bool) → a || b ≡ true → a ≡ false → b ≡ true
 other true b h e = absurd (true≢false e)
 other false b h e = h
 
+all-three : (a b c : Bool) → a && b && c ≡ true → (a ≡ true) × (b ≡ true) × (c ≡ true)
+all-three a b c h =
+    let two = and-true-left (a && b) c h in
+    (and-true-left a b two, and-true-right a b two, and-true-right (a && b) c h)
+
 all-five : (a b c d e : Bool) → a && b && c && d && e ≡ true → (a ≡ true) × (b ≡ true) × (c ≡ true) × (d ≡ true) × (e ≡ true)
 all-five a b c d e h =
-    let four = and-true-left (a && b && c && d) e h in
-    let three = and-true-left (a && b && c) d four in
-    let two = and-true-left (a && b) c three in
-    (and-true-left a b two, and-true-right a b two, and-true-right (a && b) c three, and-true-right (a && b && c) d four, and-true-right (a && b && c && d) e h)
+    let (three, four, five) = all-three (a && b && c) d e h in
+    let (one, two, third) = all-three a b c three in
+    (one, two, third, four, five)
+
+-- where an emergency stands, a penalty does
+is-behind : (x : Session) → isBehind x ≡ true → 0 < x .emergency → 0 < x .cause
+is-behind x h some =
+    let stands = other (eqb (x .emergency) 0) (not (eqb (x .cause) 0)) h (ne-eqb (x .emergency) 0 (λ e. omega arith)) in
+    pos-of-ne-zero (eqb-false (x .cause) 0 (not-true _ stands))
 
 pub opened : (x : Session) → isOpen x ≡ true → Opened x
 unfolding isOpen
 opened x h =
     let c = x .consist in
     let k = x .brake in
-    let (opened, tested, sound, cause, fresh) = all-five (x .opened) (consist.isSound c) (brake.isSound c k) (leb (x .cause) targets.most) (k .sampled || isFresh x) h in
+    let held = x .opened && consist.isSound c && brake.isSound c k && leb (x .cause) targets.most && leb (x .emergency) targets.most in
+    let (all, behind, fresh) = all-three held (isBehind x) (k .sampled || isFresh x) h in
+    let (opened, tested, sound, cause, emergency) = all-five (x .opened) (consist.isSound c) (brake.isSound c k) (leb (x .cause) targets.most) (leb (x .emergency) targets.most) all in
     let facts = consist-sound.is-sound c tested in
     record {
       opened = opened;
@@ -49,7 +65,9 @@ opened x h =
       consist = consist-sound.sound c (facts .0) (facts .1);
       brake = brake-tested.sound-is c k .0 sound;
       cause = leb-true (x .cause) targets.most cause;
+      emergency = leb-true (x .emergency) targets.most emergency;
+      behind = is-behind x behind;
       fresh = λ e.
-          let f = other (k .sampled) (isFresh x) fresh e in
-          (brake-tested.is-at-opening c k (and-true-left (isAtOpening c k) _ f) e, eqb-true (x .cause) 0 (and-true-right (isAtOpening c k) _ f));
+          let (brake, none, neither) = all-three (isAtOpening c k) (eqb (x .cause) 0) (eqb (x .emergency) 0) (other (k .sampled) (isFresh x) fresh e) in
+          (brake-tested.is-at-opening c k brake e, eqb-true (x .cause) 0 none, eqb-true (x .emergency) 0 neither);
     }

@@ -11,7 +11,7 @@ use Rattle.session.specs.Session.{Told, sessionTold, answer, answerTold,
 
 pub session-one : (x y : Session) → sessionTold x ≡ sessionTold y → x ≡ y
 session-one x y h =
-    ap₂ (λ (k : Brake) (t : Told). record { opened = t .0; consist = t .1; brake = k; cause = t .3 }) (brake-one (x .brake) (y .brake) (λ i. h i .2)) h
+    ap₂ (λ (k : Brake) (t : Told). record { opened = t .0; consist = t .1; brake = k; cause = t .3; emergency = t .4 }) (brake-one (x .brake) (y .brake) (λ i. h i .2)) h
 
 pub answer-one : (x y : Answer) → answerTold x ≡ answerTold y → x ≡ y
 answer-one x y h =

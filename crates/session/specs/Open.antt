@@ -11,9 +11,9 @@ use Rattle.session.specs.declared.Session.{Session}
 use Rattle.session.specs.declared.Answer.{Answer}
 use Rattle.session.specs.Session.{answer}
 
--- "Opening gives state 0, hold = A = set, B = 0"; no penalty stands
+-- "Opening gives state 0, hold = A = set, B = 0"; no penalty and no emergency stands
 abbrev pub openedWith : Consist → Session
-openedWith c = record { opened = true; consist = c; brake = atOpening c; cause = 0 }
+openedWith c = record { opened = true; consist = c; brake = atOpening c; cause = 0; emergency = 0 }
 
 abbrev pub openedBy : Session → Verdict × Consist → Answer
 openedBy x read = answer (kept (read .0) (openedWith (read .1)) x) (read .0)

@@ -1,5 +1,5 @@
 -- What a session holds, when it is open, and how a session and an answer are told. Definitions only.
-use mathlib.Core.Bool.{Bool, false, _&&_, _||_}
+use mathlib.Core.Bool.{Bool, false, not, _&&_, _||_}
 use mathlib.Core.List.{List}
 use Prim.Native.Nat.{ℕ}
 use lib.Dec.{leb, eqb}
@@ -17,9 +17,13 @@ use Rattle.session.specs.declared.Answer.{Answer}
 
 -- ---- "a session is open"
 
--- what a session is that has taken no sample: the brake of an opening, and no cause
+-- what a session is that has taken no sample: the brake of an opening, and no cause of penalty or emergency
 abbrev pub isFresh : Session → Bool
-isFresh x = isAtOpening (x .consist) (x .brake) && eqb (x .cause) 0
+isFresh x = isAtOpening (x .consist) (x .brake) && eqb (x .cause) 0 && eqb (x .emergency) 0
+
+-- "Emergency behind the penalty": none stands without a penalty
+abbrev pub isBehind : Session → Bool
+isBehind x = eqb (x .emergency) 0 || not (eqb (x .cause) 0)
 
 -- every value that an opening or an accepted sample hands back passes this test; what fails it is no open session
 unfoldable pub isOpen : Session → Bool
@@ -28,11 +32,13 @@ isOpen x =
     && consist.isSound (x .consist)
     && brake.isSound (x .consist) (x .brake)
     && leb (x .cause) targets.most
+    && leb (x .emergency) targets.most
+    && isBehind x
     && (x .brake .sampled || isFresh x)
 
 -- the value before any opening
 abbrev pub noneOpen : Session
-noneOpen = record { opened = false; consist = consist.none; brake = atOpening consist.none; cause = 0 }
+noneOpen = record { opened = false; consist = consist.none; brake = atOpening consist.none; cause = 0; emergency = 0 }
 
 -- what a call hands back
 abbrev pub answer : Session → Verdict → Answer
@@ -44,12 +50,12 @@ refusedWith x r = answer x (Refused r)
 
 -- ---- the paper's number and values
 
--- opened or not, the consist, what the air brakes hold, the cause
+-- opened or not, the consist, what the air brakes hold, the penalty's cause, the emergency's
 abbrev pub Told : Type 0
-Told = Bool × Consist × List ℕ × ℕ
+Told = Bool × Consist × List ℕ × ℕ × ℕ
 
 abbrev pub sessionTold : Session → Told
-sessionTold x = (x .opened, x .consist, brakeTold (x .brake), x .cause)
+sessionTold x = (x .opened, x .consist, brakeTold (x .brake), x .cause, x .emergency)
 
 -- of an answer, the number of its verdict and the session
 abbrev pub answerTold : Answer → ℕ × Told

@@ -15,6 +15,8 @@ pub struct Session {
     pub brake: Brake,
     // the standing penalty's: the target's place in the list, from 1, or 0 for none
     pub cause: u8,
+    // the standing emergency's, likewise; it stands behind a penalty only
+    pub emergency: u8,
 }
 
 // What a call hands back: the session from now on, and what it has to say.
@@ -44,6 +46,7 @@ pub fn none() -> Session
         consist,
         brake,
         cause: 0,
+        emergency: 0,
     }
 }
 
@@ -55,11 +58,14 @@ pub fn is_open(x: Session) -> bool
     let k = x.brake;
     let consist_sound = consist::is_sound(c);
     let brake_sound = k.is_sound(c);
-    let fresh = k.is_at_opening(c) & (x.cause == 0);
+    let fresh = k.is_at_opening(c) & (x.cause == 0) & (x.emergency == 0);
+    let behind = (x.emergency == 0) | (x.cause != 0);
     x.opened
         & consist_sound
         & brake_sound
         & (x.cause as usize <= Target::MOST)
+        & (x.emergency as usize <= Target::MOST)
+        & behind
         & (k.sampled | fresh)
 }
 
@@ -77,14 +83,14 @@ pub fn open(x: Session, s: &[u8]) -> Answer
     };
     let c = read.consist;
     let brake = Brake::at_opening(c);
-    let anew = Session {
-        opened: true,
-        consist: c,
-        brake,
-        cause: 0,
-    };
     Answer {
-        session: anew,
+        session: Session {
+            opened: true,
+            consist: c,
+            brake,
+            cause: 0,
+            emergency: 0,
+        },
         verdict: Verdict::Accepted,
     }
 }

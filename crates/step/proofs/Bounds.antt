@@ -9,7 +9,7 @@ use Rattle.whole.proofs.Size.{abs-add, abs-times}
 use Rattle.consist.specs.declared.Consist.{Consist}
 use Rattle.track.specs.declared.Under.{Under}
 use Rattle.step.specs.declared.Curve.{Curve}
-use Rattle.step.specs.Curve.{dropAt, cylinderAt, forceAt, penaltyCurve}
+use Rattle.step.specs.Curve.{dropAt, cylinderAt, forceAt, penaltyCurve, emergencyCurve}
 use Rattle.step.specs.Step.{opposing, stepTime}
 use Rattle.step.specs.Range.{Braking, Opposed, squareMost, rootMost, timeMost}
 
@@ -34,6 +34,11 @@ force-most rated k t h b = omega (arith, mul-le-mul h (cylinder-most k t b))
 pub penalty-braking : (c : Consist) (a b : ℕ) → 0 < c .application → c .set ≤ 11000 → a ≤ 11000 → b ≤ 70000 → Braking (penaltyCurve c a b)
 unfolding penaltyCurve
 penalty-braking c a b t s ha hb = omega arith
+
+-- the emergency's
+pub emergency-braking : (a b equalization : ℕ) → a ≤ 11000 → b ≤ 70000 → Braking (emergencyCurve a b equalization)
+unfolding emergencyCurve
+emergency-braking a b equalization ha hb = omega arith
 
 -- ---- the root and the time of a step
 

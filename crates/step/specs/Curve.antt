@@ -25,3 +25,13 @@ penaltyCurve c a b = record {
   per = 7 * c .application;
   most = a - equalizationService a b;
 }
+
+-- document 02's R-5: "Drop is (A minus equalization) × t / 10,000, down, not past equalization and not below 0; p is B plus 6 drop."
+unfoldable pub emergencyCurve : ℕ → ℕ → ℕ → Curve
+emergencyCurve a b equalization = record {
+  base = b;
+  gain = 12;
+  slope = a - equalization;
+  per = 10000;
+  most = a - equalization;
+}

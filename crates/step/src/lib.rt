@@ -5,7 +5,7 @@ use track::Under;
 ghost use mathlib.Core.Path.{_≡_};
 ghost use lib.IntN.{pos, _-ℤ_};
 ghost use Rattle.whole.specs.Floor.{cut};
-ghost use Rattle.step.specs.Curve.{forceAt, penaltyCurve};
+ghost use Rattle.step.specs.Curve.{forceAt, penaltyCurve, emergencyCurve};
 ghost use Rattle.step.specs.Step.{opposing, loss, stepOf, even};
 ghost use Rattle.step.specs.Range.{Applied, Opposed, Moving};
 
@@ -37,6 +37,20 @@ impl Curve {
             slope: 2 * c.set as u64,
             per: 7 * c.application as u64,
             most: whole::above(a as u64, end as u64),
+        }
+    }
+
+    // Emergency air, from A as it is applied, B and the equalization that A falls to.
+    pub fn emergency(a: u16, b: u16, equalization: u16) -> Curve
+        ensures { λ r. ⌜ r ≡ emergencyCurve a b equalization ⌝ }
+    {
+        let most = whole::above(a as u64, equalization as u64);
+        Curve {
+            base: b as u64,
+            gain: 12,
+            slope: most,
+            per: 10_000,
+            most,
         }
     }
 

@@ -17,43 +17,50 @@ ghost use Rattle.refusal.specs.Number.{told};
 ghost use Rattle.session.specs.Session.{isOpen};
 ghost use Rattle.held.specs.Held.{size, widths, fieldsOf, bytesOf, writeSession};
 
-// The first six fields, to A. The record is put in two parts, each short enough to be put without a loop.
+// The first five fields, to the state. The record is put in three parts, each short enough to be put without a loop.
 fn put_front(x: Session, out: &mut [u8])
-    ensures { λ _. ⌜ now (out .exit) ≡ putFrom 0 (take 6 widths) (take 6 (fieldsOf x)) (now (out .entry)) ⌝ }
+    ensures { λ _. ⌜ now (out .exit) ≡ putFrom 0 (take 5 widths) (take 5 (fieldsOf x)) (now (out .entry)) ⌝ }
 {
     let k = x.brake;
     let state = k.state;
     let number = brake::state_number(state);
-    let widths = [16, 4, 1, 3, 16, 16];
+    let widths = [16, 4, 4, 1, 7];
     let values = [
         MARK,
         x.cause as u64,
+        x.emergency as u64,
         k.sampled as u64,
         number as u64,
-        k.hold as u64,
-        k.a as u64,
     ];
     bits::put_fields(out, 0, &widths, &values);
 }
 
-// The other six.
-fn put_back(x: Session, out: &mut [u8])
-    ensures { λ _. ⌜ now (out .exit) ≡ putFrom 56 (drop 6 widths) (drop 6 (fieldsOf x)) (now (out .entry)) ⌝ }
+// Hold, A, B and equalization.
+fn put_pressures(x: Session, out: &mut [u8])
+    ensures { λ _. ⌜ now (out .exit) ≡ putFrom 32 (take 4 (drop 5 widths)) (take 4 (drop 5 (fieldsOf x))) (now (out .entry)) ⌝ }
 {
     let k = x.brake;
-    let widths = [16, 16, 16, 16, 16, 24];
+    let widths = [16, 16, 16, 16];
+    let values = [k.hold as u64, k.a as u64, k.b as u64, k.equalization as u64];
+    bits::put_fields(out, 32, &widths, &values);
+}
+
+// The other four.
+fn put_back(x: Session, out: &mut [u8])
+    ensures { λ _. ⌜ now (out .exit) ≡ putFrom 96 (drop 9 widths) (drop 9 (fieldsOf x)) (now (out .entry)) ⌝ }
+{
+    let k = x.brake;
+    let widths = [16, 16, 16, 24];
     let values = [
-        k.b as u64,
-        k.equalization as u64,
         k.fall as u64,
         k.last_front as u64,
         k.last_rear as u64,
         k.last_time as u64,
     ];
-    bits::put_fields(out, 56, &widths, &values);
+    bits::put_fields(out, 96, &widths, &values);
 }
 
-// Puts the record over the first 40 bytes of `out`.
+// Puts the record over the first 41 bytes of `out`.
 fn put(x: Session, out: &mut [u8])
     requires opened { ⌜ isOpen x ≡ true ⌝ }
     requires room { ⌜ size ≤ length (now out) ⌝ }
@@ -61,13 +68,14 @@ fn put(x: Session, out: &mut [u8])
 {
     let c = x.consist;
     put_front(x, out);
+    put_pressures(x, out);
     put_back(x, out);
     // not refused: an open session's consist is sound
     consist::write(c, &mut out[OWN..BODY]);
     seal::put_check_word(&mut out[0..SIZE]);
 }
 
-// Writes the record to the first 40 bytes of `out`.
+// Writes the record to the first 41 bytes of `out`.
 pub fn write(x: Session, out: &mut [u8]) -> Verdict
     ensures { λ r. ⌜ told (r, now (out .exit)) ≡ told (writeSession x (now (out .entry))) ⌝ }
 {

@@ -31,7 +31,7 @@ sampleJudged s = numberOfVerdict (lowest (sample.readRules s))
 
 -- ---- the decision
 
--- five: time, brake state, penalty (1 or 0), cause, stopping location
+-- five: time, brake state, penalty (1 or 0), cause, stopping location; of a second record the last three are the emergency's
 abbrev pub decisionNumbers : ℕ
 decisionNumbers = 5
 

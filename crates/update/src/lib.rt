@@ -15,15 +15,7 @@ pub fn updated(k: Brake, c: Consist, time: u32, front: u16, rear: RearPressure) 
     ensures { λ r. ⌜ r ≡ updateOf c k time front rear ⌝ }
 {
     let r = reading::of_sample(k, c, time, front, rear);
-    let state = k.state;
-    let held = Air {
-        state: state,
-        hold: k.hold,
-        a: k.a,
-        b: k.b,
-        equalization: k.equalization,
-        fall: k.fall,
-    };
+    let held = Air::of(k);
     let next = states::ruled(held, c, r);
     let state = next.state;
     Brake {

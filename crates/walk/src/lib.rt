@@ -5,7 +5,6 @@ use profile::Segment;
 use step::Curve;
 use step::Run;
 use targets::Target;
-use track::Track;
 ghost use mathlib.Core.Path.{_≡_};
 ghost use Prim.Native.Nat.{_*_, _≤_};
 ghost use Rattle.record.specs.Location.{noStop};
@@ -101,8 +100,9 @@ fn started(head: u32, speed: u16) -> Run
     }
 }
 
-// The walk, in one pass for the stop and for each speed. The track's parts are lent.
-fn pass<'a>(
+// Where the train stops, and where it is at or below each speed, from `head` on at `speed`, in one pass.
+// The track is given by its fields, so that its arrays are lent and not copied.
+pub fn predict<'a>(
     c: Consist,
     curve: Curve,
     count: usize,
@@ -137,32 +137,4 @@ fn pass<'a>(
         run = run.stepped(c, curve, u);
         n += 1;
     }
-}
-
-// Where the train stops, and where it is at or below each speed, from `head` on at `speed`.
-pub fn predict(
-    c: Consist,
-    curve: Curve,
-    t: Track,
-    head: u32,
-    speed: u16,
-    speeds: [u16; Target::MOST],
-) -> Prediction
-    requires { ⌜ Walkable c curve t head speed ⌝ }
-    ensures { λ r. ⌜ r ≡ predictOf c (forceAt (c .rated) curve) (groundOf t (c .length)) head speed speeds ⌝ }
-{
-    let starts = t.starts;
-    let grades = t.grades;
-    let curvatures = t.curvatures;
-    pass(
-        c,
-        curve,
-        t.count,
-        &starts,
-        &grades,
-        &curvatures,
-        head,
-        speed,
-        speeds,
-    )
 }

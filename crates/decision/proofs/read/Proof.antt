@@ -16,7 +16,7 @@ use Rattle.refusal.specs.declared.Verdict.the-variants.{Accepted}
 use Rattle.refusal.specs.Number.{told}
 use Rattle.refusal.proofs.Steps.{on-unless, off-unless}
 use Rattle.record.specs.Record.{wrongLength}
-use Rattle.decision.specs.Decision.{size, mark, widths, ofFields, decisionIn, wrongMark, outOfRange, answer, refusedWith, readDecision}
+use Rattle.decision.specs.Decision.{size, widths, ofFields, decisionIn, isMark, wrongMark, outOfRange, answer, refusedWith, readDecision}
 use Rattle.decision.proofs.Answers.{read-is}
 use borrow.Author.Needs.{needs}
 use Rattle.decision.proofs.read.Statement.{statement}
@@ -42,8 +42,8 @@ past-mark : (c : tie.After-enum-told3) → wrongMark (fieldsIn widths (given (ma
 unfolding wrongMark
 past-mark c =
     let l = past-length (marked c) in
-    ap (λ (fs : List ℕ). not (eqb (getD fs 0 0) mark)) (sym (l .1))
-    ∙ ap (λ (x : ℕ). not (eqb x mark)) (sym (c .before .before .before .field .ensures .0))
+    ap (λ (fs : List ℕ). not (isMark (getD fs 0 0))) (sym (l .1))
+    ∙ ap (λ (x : ℕ). not (isMark x)) (sym (c .before .before .before .field .ensures .0))
     ∙ on-unless _ (sym (c .enum-told3 .given .1) ∙ c .before .before .unless2 .ensures)
 
 returns : tie.Need-returns
@@ -57,8 +57,8 @@ returns-2 c =
     let mark-read = c .before .before .before .before .before in
     let l = past-length mark-read in
     let m =
-    ap (λ (fs : List ℕ). not (eqb (getD fs 0 0) mark)) (sym (l .1))
-    ∙ ap (λ (x : ℕ). not (eqb x mark)) (sym (c .before .before .before .before .field .ensures .0))
+    ap (λ (fs : List ℕ). not (isMark (getD fs 0 0))) (sym (l .1))
+    ∙ ap (λ (x : ℕ). not (isMark x)) (sym (c .before .before .before .before .field .ensures .0))
     ∙ off-unless _ (sym (c .before .enum-told4 .given .1) ∙ c .before .before .before .unless2 .ensures) in
     let three : refusedWith WrongMark ≡ readDecision (given mark-read) = sym (read-is _ false true _ (l .0) m refl) in
     ap told (c .refused2 .ensures ∙ three)

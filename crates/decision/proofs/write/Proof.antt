@@ -6,13 +6,12 @@ use Prim.Native.Nat.{ℕ}
 use lib.ListN.{length}
 use borrow.Author.Tests.{ltb-false}
 use denote.Ref.{now}
-use Rattle.bits.proofs.Places.{put-all}
 use Rattle.refusal.specs.Written.{noRoom}
 use Rattle.refusal.specs.declared.Verdict.the-variants.{Accepted}
 use Rattle.refusal.specs.Number.{told}
 use Rattle.refusal.proofs.Steps.{on-unless, off-unless}
-use Rattle.decision.specs.Decision.{size, widths, fieldsOf, bytesOf, outOfRange}
-use Rattle.decision.proofs.Answers.{write-is, fits}
+use Rattle.decision.specs.Decision.{size, bytesOf, outOfRange}
+use Rattle.decision.proofs.Answers.{write-is, put-one}
 use borrow.Author.Needs.{needs}
 use Rattle.decision.proofs.write.Statement.{statement}
 use Rattle.decision.proofs.write.Tie as tie
@@ -47,7 +46,7 @@ returns-3 c =
     ap told
     (ap (λ (l : List ℕ). (Accepted, l))
     (c .before .before .put .ensures
-    ∙ put-all size widths (fieldsOf d) out tt refl (fits d r) (λ i. start .slice-known .given i .fits) (ltb-false (length out) size o))
+    ∙ put-one d out r (λ i. start .slice-known .given i .fits) (ltb-false (length out) size o))
     ∙ sym (write-is d out false false r o))
 
 pub write-spec : {M : Type 1} → statement M

@@ -1,43 +1,18 @@
--- `line::put_refusal` meets its contract: the number, and before it the space and the `x`. Assumes nothing.
+-- `line::put_refusal` meets its contract. Assumes nothing.
 use mathlib.Core.Path.{_≡_, ap, _∙_}
-use mathlib.Core.List.{[], _∷_}
-use Prim.Native.Nat.{ℕ, _+_, _-_, _≤_}
+use Prim.Native.Nat.{ℕ}
 use native.Mathlib.Omega.{arith}
-use lib.ListN.{length, set, length-set, length-append}
+use lib.ListN.{length}
 use borrow.Author.Needs.{needs}
-use Rattle.line.specs.Line.{space, cross, spaced, refusalText, putLast}
-use Rattle.line.proofs.Decimal.{ten-digits}
-use Rattle.line.proofs.Put.{put-at, put-one, put-on}
+use Rattle.line.specs.Line.{refusalText, putBefore, room}
 use Rattle.line.proofs.put_refusal.Statement.{statement}
 use Rattle.line.proofs.put_refusal.Tie as tie
 
--- the number, which is put first
-abbrev numbered : tie.After-put-numbers → tie.After-number
-numbered c = c .before .before .before
-
--- it begins where two bytes are left before it, and no byte is added
-begins : (c : tie.After-put-numbers) → let line = length (spaced (numbered c .number .result ∷ [])) in let room = length (numbered c .before .args .out .now) in
-    (c .put-numbers .result + line ≡ room) × (line ≤ 11) × (length (c .put-numbers .last .1 .0) ≡ room)
-begins c =
-    let n : length (spaced (numbered c .number .result ∷ [])) ≤ 11 = simp length-append (omega (arith, ten-digits (numbered c .number .result) (omega arith))) in
-    let p = put-at _ _ (omega arith) _ _ _ (omega arith) (c .put-numbers .ensures) in
-    (p .0, n, p .1)
-
 returns : tie.Need-returns
-unfolding refusalText
 returns c =
-    let s = numbered c in
-    let at = c .put-numbers .result in
-    let now = c .put-numbers .last .1 .0 in
-    let b = begins c in
-    put-one (at - 1) (set now (at - 1) space) (simp length-set (omega arith)) cross (omega arith)
-    ∙ put-on _ _ (omega arith) (cross ∷ []) _ _ _ (omega arith) (put-one at now (omega arith) space (omega arith) ∙ put-on _ _ (omega arith) (space ∷ []) _ _ _ (omega arith) (c .put-numbers .ensures))
-    ∙ ap (λ (m : ℕ). putLast (cross ∷ space ∷ spaced (m ∷ [])) (s .before .args .out .now)) (s .number .ensures)
+    let a = c .before .before .args in
+    let l : room ≡ length (a .out .now) = omega arith in
+    c .put-cross .ensures ∙ ap (λ (n : ℕ). putBefore (refusalText (a .r)) n (a .out .now)) l
 
 pub put-refusal-spec : {M : Type 1} → statement M
-put-refusal-spec =
-    tie.close
-    (tie.spec
-    (λ c κs. search needs) (λ c. search needs) (λ c. search needs) (λ c κs. search needs)
-    (λ c. omega (arith, begins c)) (λ c. omega (arith, begins c)) (λ c. omega (arith, begins c)) (λ c. omega (arith, begins c))
-    returns)
+put-refusal-spec = tie.close (tie.spec (λ c κs. search needs) returns)

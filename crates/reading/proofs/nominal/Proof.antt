@@ -1,4 +1,5 @@
 -- `reading::nominal` meets its contract. Assumes nothing.
+use native.Mathlib.Omega.{arith}
 use borrow.Author.Needs.{needs}
 use Rattle.reading.specs.Readings.{nominalOf}
 use Rattle.reading.proofs.nominal.Statement.{statement}
@@ -15,7 +16,7 @@ cast-result c = search needs
 
 returns : tie.Need-returns
 unfolding nominalOf
-returns c = search needs
+returns c = omega (arith, c .above2 .ensures, c .before .above .ensures)
 
 pub nominal-spec : {M : Type 1} → statement M
 nominal-spec = tie.close (tie.spec above-requires above-requires-2 cast-result returns)

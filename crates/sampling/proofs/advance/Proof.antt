@@ -1,10 +1,4 @@
 -- `sampling::advance` meets its contract. Assumes nothing.
-use mathlib.Core.Path.{_≡_, sym, ap, _∙_}
-use mathlib.Core.Bool.{Bool, cond}
-use mathlib.Core.Logic.{⊎-elim}
-use Prim.Native.Nat.{ℕ}
-use lib.Dec.{eqb}
-use borrow.Author.Tests.{eq-eqb, ne-eqb}
 use denote.Ref.{now}
 use Rattle.sampling.proofs.Accepted.{predictable, after-is}
 use borrow.Author.Needs.{needs}
@@ -19,24 +13,21 @@ of-sample-requires c κs =
     let a = start c .args in
     rw (c .updated .ensures) (predictable (a .x) (a .m) (now (a .p)) (start c .pre))
 
--- the cause that stands, or else the one that is called for
-standing : (c : tie.Joined1) →
-    let found = c .before .before in
-    let stands = start (found .before) .args .x .cause in
-    c .if1 .cause ≡ cond (eqb stands 0) (found .of-sample .result .called) stands
-standing c =
-    let found = c .before .before in
-    let stands = start (found .before) .args .x .cause in
-    let choice : Bool → ℕ = λ b. cond {A = ℕ} b (found .of-sample .result .called) stands in
-    ⊎-elim (λ w. w .1 ∙ sym (ap choice (eq-eqb stands 0 (w .0 .taken)))) (λ w. w .1 ∙ sym (ap choice (ne-eqb stands 0 (w .0 .left)))) (c .if1 .came)
-
 returns : tie.Need-returns
 returns c =
-    let found = c .before .before .before in
+    let first = c .before in
+    let number = first .before in
+    let stays = number .before in
+    let stands = stays .before in
+    let found = stands .before in
     let updated = found .before in
     let a = start updated .args in
-    after-is (a .x) (a .m) (now (a .p)) (now (a .t)) (updated .updated .result) (found .of-sample .result) (c .before .if1 .cause) (c .state-number .result)
-    (updated .updated .ensures) (found .of-sample .ensures) (standing (c .before)) (c .state-number .ensures)
+    after-is (a .x) (a .m) (now (a .p)) (now (a .t)) (updated .updated .result) (found .of-sample .result) (stands .standing .result)
+    (stays .standing2 .result) (number .state-number .result) (first .decided .result) (c .decided2 .result) (updated .updated .ensures) (found .of-sample .ensures)
+    (stands .standing .ensures) (stays .standing2 .ensures) (number .state-number .ensures) (first .decided .ensures) (c .decided2 .ensures)
 
 pub advance-spec : {M : Type 1} → statement M
-advance-spec = tie.close (tie.spec (λ c κs. search needs) of-sample-requires (λ c κs. search needs) returns)
+advance-spec =
+    tie.close
+    (tie.spec (λ c κs. search needs) of-sample-requires (λ c κs. search needs) (λ c κs. search needs) (λ c κs. search needs) (λ c κs. search needs)
+    (λ c κs. search needs) returns)

@@ -10,7 +10,7 @@ use Rattle.refusal.specs.declared.Verdict.{Verdict}
 use Rattle.refusal.specs.declared.Verdict.the-variants.{Accepted}
 use Rattle.refusal.proofs.Numbers.{told-one}
 use Rattle.sample.specs.declared.Sample.{Sample}
-use Rattle.decision.specs.Decision.{writeDecision}
+use Rattle.decision.specs.Decision.{writeBoth}
 use Rattle.admission.proofs.Admitted.{verdict-is, sample-is}
 use Rattle.prediction.specs.Steps.{Ready}
 use Rattle.session.specs.declared.Session.{Session}
@@ -19,7 +19,7 @@ use Rattle.sampling.specs.declared.After.{After}
 use Rattle.session.specs.Session.{answer, callTold}
 use Rattle.sampling.specs.Sample.{sampleIn, sessionAfter, sampleCall}
 use Rattle.sampling.specs.Steps.{rulesBefore, afterOf}
-use Rattle.sampling.proofs.Admitted.{not-open, past-open, ready, in-range}
+use Rattle.sampling.proofs.Admitted.{not-open, past-open, ready, in-range, emergency-in-range}
 use Rattle.sampling.proofs.Calls.{call-before, call-written}
 use borrow.Author.Needs.{needs}
 use Rattle.sampling.proofs.sample.Statement.{statement}
@@ -93,10 +93,10 @@ advance-requires c κs =
     let k = begun (c .before) in
     subst (λ (m : Sample). Ready (x k .consist) (x k .brake) m (p k)) (admitted (c .before)) (ready (x k) (s k) (p k) (t k) (passes (c .before)))
 
--- past the walk: what the writer says of the decision is handed on
-module _ (c : tie.After-write) where
+-- past the walk: what the writer says of the decisions is handed on
+module _ (c : tie.After-write-both) where
   abbrev walked : tie.After-advance
-  walked = c .before .before .before .before
+  walked = c .before .before .before .before .before
 
   abbrev entry : tie.After-is-open
   entry = begun (walked .before .before)
@@ -104,27 +104,27 @@ module _ (c : tie.After-write) where
   abbrev moved : Verdict → Answer
   moved v = answer (kept v (sessionAfter (x entry) (sampleIn (s entry)) (p entry) (t entry)) (x entry)) v
 
-  call-is : sampleCall (x entry) (s entry) (p entry) (t entry) (out entry) ≡ (moved (c .write .result), c .write .last .1 .0)
+  call-is : sampleCall (x entry) (s entry) (p entry) (t entry) (out entry) ≡ (moved (c .write-both .result), c .write-both .last .1 .1 .0)
   call-is =
       let k = entry in
       let before = passes (walked .before .before) in
       let a = after-is walked in
-      let w = told-one (c .write .result, c .write .last .1 .0) (writeDecision (walked .advance .result .decision) (out k)) (c .write .ensures) in
-      call-written (x k) (s k) (p k) (t k) (out k) before (in-range (x k) (s k) (p k) (t k) before) _ _
-      (w ∙ ap (λ (y : After). writeDecision (y .decision) (out k)) a)
+      let w = told-one (c .write-both .result, c .write-both .last .1 .1 .0) (writeBoth (walked .advance .result .decision) (walked .advance .result .emergency) (out k)) (c .write-both .ensures) in
+      call-written (x k) (s k) (p k) (t k) (out k) before (in-range (x k) (s k) (p k) (t k) before) (emergency-in-range (x k) (s k) (p k) (t k) before) _ _
+      (w ∙ ap (λ (y : After). writeBoth (y .decision) (y .emergency) (out k)) a)
 
 returns-3 : tie.Need-returns-3
 returns-3 c =
     let k = c .before .before .before .before in
     ap callTold
-    (ap (λ (y : Session). (answer y (k .write .result), k .write .last .1 .0)) (ap (λ (v : Verdict). moved k v .session) (sym (c .enum-told4 .given .1)))
+    (ap (λ (y : Session). (answer y (k .write-both .result), k .write-both .last .1 .1 .0)) (ap (λ (v : Verdict). moved k v .session) (sym (c .enum-told4 .given .1)))
     ∙ sym (call-is k))
 
 returns-4 : tie.Need-returns-4
 returns-4 c =
     let k = c .before .before .before .before in
     ap callTold
-    (ap (λ (y : Answer). (y, k .write .last .1 .0))
+    (ap (λ (y : Answer). (y, k .write-both .last .1 .1 .0))
     (ap (λ (y : After). answer (y .session) Accepted) (after-is (walked k)) ∙ ap (moved k) (sym (c .enum-told3 .given .1)))
     ∙ sym (call-is k))
 

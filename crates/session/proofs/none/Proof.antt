@@ -9,7 +9,7 @@ use Rattle.session.proofs.none.Statement.{statement}
 use Rattle.session.proofs.none.Tie as tie
 
 returns : tie.Need-returns
-returns c = ap (λ (k : Brake). sessionTold (record { opened = false; consist = consist.none; brake = k; cause = 0 })) (c .at-opening .ensures)
+returns c = ap (λ (k : Brake). sessionTold (record { opened = false; consist = consist.none; brake = k; cause = 0; emergency = 0 })) (c .at-opening .ensures)
 
 pub none-spec : {M : Type 1} → statement M
 none-spec = tie.close (tie.spec (λ c κs. search needs) returns)

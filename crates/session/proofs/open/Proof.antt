@@ -38,7 +38,7 @@ returns-2 : tie.Need-returns-2
 returns-2 c =
     let k = c .before .before .before .before in
     ap answerTold
-    (ap (λ (b : Brake). answer (record { opened = true; consist = read k .1; brake = b; cause = 0 }) Accepted) (c .at-opening .ensures)
+    (ap (λ (b : Brake). answer (record { opened = true; consist = read k .1; brake = b; cause = 0; emergency = 0 }) Accepted) (c .at-opening .ensures)
     ∙ ap (λ (v : Verdict). openedBy (start k .args .x) (v, read k .1)) (sym (c .before .before .enum-told .given .1))
     ∙ opened-by k)
 

@@ -37,29 +37,32 @@ module _ (x : Session) (o : isOpen x ≡ true) where
       ∙ (λ i. consist.bytesOf (x .consist) ++ drop-of-length-le t {i = 16} (omega (arith, e)) i)
       ∙ append-nil (consist.bytesOf (x .consist))
 
-  all-put : (out fields behind whole : List ℕ) → Bytes out → 40 ≤ length out → fields ≡ putFrom 0 widths (fieldsOf x) out
-      → behind ≡ consist.writeConsist (x .consist) (take 16 (drop 20 fields)) .1
-      → whole ≡ resealed (take 40 (take 20 fields ++ (behind ++ drop 16 (drop 20 fields))))
-      → whole ++ drop 40 (take 20 fields ++ (behind ++ drop 16 (drop 20 fields))) ≡ bytesOf x ++ drop 40 out
+  all-put : (out fields behind whole : List ℕ) → Bytes out → 41 ≤ length out → fields ≡ putFrom 0 widths (fieldsOf x) out
+      → behind ≡ consist.writeConsist (x .consist) (take 16 (drop 21 fields)) .1
+      → whole ≡ resealed (take 41 (take 21 fields ++ (behind ++ drop 16 (drop 21 fields))))
+      → whole ++ drop 41 (take 21 fields ++ (behind ++ drop 16 (drop 21 fields))) ≡ bytesOf x ++ drop 41 out
   unfolding bytesOf consist.bytesOf
   all-put out fields behind whole b room f c w =
-      let own = bytesFrom 20 widths (fieldsOf x) in
-      let first : fields ≡ own ++ drop 20 out = f ∙ put-all 20 widths (fieldsOf x) out tt refl (fits x o) b (omega arith) in
-      let l : length (take 16 (drop 20 fields)) ≡ 16 = rw (ap (drop 20) first) (simp (length-take, length-drop) (omega arith)) in
-      let both = put-part out own fields 20 refl first behind 16 ∙ (λ i. (own ++ (c ∙ consist-put (take 16 (drop 20 fields)) l) i) ++ drop 36 out) in
-      let seal = resealed-over (own ++ consist.bytesOf (x .consist)) (take 4 (drop 36 out)) (simp (length-take, length-drop) (omega arith)) in
-      ap₂ _++_ (w ∙ (λ i. resealed (take 40 (both i))) ∙ seal) (ap (drop 40) both ∙ drop-drop 4 36 out)
+      let own = bytesFrom 21 widths (fieldsOf x) in
+      let first : fields ≡ own ++ drop 21 out = f ∙ put-all 21 widths (fieldsOf x) out tt refl (fits x o) b (omega arith) in
+      let l : length (take 16 (drop 21 fields)) ≡ 16 = rw (ap (drop 21) first) (simp (length-take, length-drop) (omega arith)) in
+      let both = put-part out own fields 21 refl first behind 16 ∙ (λ i. (own ++ (c ∙ consist-put (take 16 (drop 21 fields)) l) i) ++ drop 37 out) in
+      let seal = resealed-over (own ++ consist.bytesOf (x .consist)) (take 4 (drop 37 out)) (simp (length-take, length-drop) (omega arith)) in
+      ap₂ _++_ (w ∙ (λ i. resealed (take 41 (both i))) ∙ seal) (ap (drop 41) both ∙ drop-drop 4 37 out)
 
 returns : tie.Need-returns
 returns c =
     let sealed = c .before .before in
     let written = sealed .before .before .before .before in
     let back = written .before .before .before .before in
-    let front = back .before .before .before .before in
+    let pressures = back .before .before .before .before in
+    let front = pressures .before .before .before .before in
     let start = front .before .before .before in
     let a = start .before .args in
     all-put (a .x) (start .before .pre .0) (now (a .out)) _ _ _ (λ i. start .slice-known .given i .fits) (start .before .pre .1)
-    (back .put-back .ensures ∙ ap (putFrom 56 (drop 6 widths) (drop 6 (fieldsOf (a .x)))) (front .put-front .ensures))
+    (back .put-back .ensures
+    ∙ ap (putFrom 96 (drop 9 widths) (drop 9 (fieldsOf (a .x))))
+    (pressures .put-pressures .ensures ∙ ap (putFrom 32 (take 4 (drop 5 widths)) (take 4 (drop 5 (fieldsOf (a .x))))) (front .put-front .ensures)))
     (λ i. written .write .ensures i .1)
     (sealed .put-check-word .ensures)
 
@@ -67,6 +70,6 @@ pub put-spec : {M : Type 1} → statement M
 put-spec =
     tie.close
     (tie.spec
-    (λ c κs. search needs) (λ c κs. search needs) (λ c. search needs) (λ c. search needs) (λ c. search needs) (λ c κs. search needs)
+    (λ c κs. search needs) (λ c κs. search needs) (λ c κs. search needs) (λ c. search needs) (λ c. search needs) (λ c. search needs) (λ c κs. search needs)
     (λ c. search needs) (λ c. search needs) (λ c. search needs) (λ c κs. search needs) (λ c. search needs)
     returns)

@@ -1,4 +1,10 @@
 -- `stored::put_front` meets its contract. Assumes nothing.
+use mathlib.Core.Path.{_∙_}
+use mathlib.Core.List.{[], _∷_}
+use lib.ListN.{take}
+use denote.Ref.{now}
+use Rattle.bits.specs.Places.{putFrom}
+use Rattle.held.specs.Held.{mark, widths}
 use Rattle.bits.proofs.Bit.{same-bit}
 use borrow.Author.Needs.{needs}
 use Rattle.stored.proofs.put_front.Statement.{statement}
@@ -8,13 +14,16 @@ returns : tie.Need-returns
 returns c =
     let put = c .before .before in
     let lent = put .before .before .before in
-    let numbered = lent .before .before .before .before .before in
-    rw (put .put-fields .ensures, numbered .state-number .ensures, same-bit (numbered .before .before .before .args .x .brake .sampled))
+    let numbered = lent .before .before .before .before in
+    let x = numbered .before .before .before .args .x in
+    let out = now (numbered .before .before .before .args .out) in
+    put .put-fields .ensures
+    ∙ (λ i. putFrom 0 (take 5 widths) (mark ∷ x .cause ∷ x .emergency ∷ same-bit (x .brake .sampled) i ∷ numbered .state-number .ensures i ∷ []) out)
 
 pub put-front-spec : {M : Type 1} → statement M
 put-front-spec =
     tie.close
     (tie.spec
-    (λ c κs. search needs) (λ c. search needs) (λ c. search needs) (λ c. search needs) (λ c. search needs) (λ c. search needs)
+    (λ c κs. search needs) (λ c. search needs) (λ c. search needs) (λ c. search needs) (λ c. search needs)
     (λ c. search needs) (λ c. search needs) (λ c κs. search needs) (λ c. search needs)
     returns)

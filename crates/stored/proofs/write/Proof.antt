@@ -25,8 +25,8 @@ first c = c .before .before .before
 past-open : (c : tie.After-enum-told) → isOpen (start c .args .x) ≡ true
 past-open c = sym (c .before .before .before .is-open .ensures) ∙ not-false _ (on-unless _ (sym (c .enum-told .given .1) ∙ c .before .before .unless .ensures))
 
-past-room : (c : tie.After-enum-told3) → 40 ≤ length (now (start (first c) .args .out))
-past-room c = ltb-false _ 40 (on-unless _ (sym (c .enum-told3 .given .1) ∙ c .before .before .unless2 .ensures))
+past-room : (c : tie.After-enum-told3) → 41 ≤ length (now (start (first c) .args .out))
+past-room c = ltb-false _ 41 (on-unless _ (sym (c .enum-told3 .given .1) ∙ c .before .before .unless2 .ensures))
 
 returns : tie.Need-returns
 returns c =

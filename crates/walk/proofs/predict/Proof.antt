@@ -1,4 +1,4 @@
--- `walk::pass` meets its contract: after each step, what is found at an arrival or the rest of the walk is what the whole walk finds.
+-- `walk::predict` meets its contract: after each step, what is found at an arrival or the rest of the walk is what the whole walk finds.
 -- Assumes nothing.
 use mathlib.Core.Path.{_≡_, ap, _∙_}
 use Prim.Native.Nat.{ℕ, _-_, _≤_, _<_}
@@ -21,8 +21,8 @@ use Rattle.step.specs.Range.{squareMost}
 use Rattle.step.proofs.Gain.{gains, under-bound, gentle-no-steeper}
 use Rattle.walk.specs.Marks.{Marked, Open, predictionWith}
 use Rattle.walk.proofs.Arrivals.{Walked, walk-begins, unmarked, answer-stop, answer-never, walks-on}
-use Rattle.walk.proofs.pass.Statement.{statement}
-use Rattle.walk.proofs.pass.Tie as tie
+use Rattle.walk.proofs.predict.Statement.{statement}
+use Rattle.walk.proofs.predict.Tie as tie
 
 abbrev Inv-loop : tie.InvT-loop
 Inv-loop c curve count starts grades curvatures head speed speeds length run₀ arrivals₀ next₀ n₀ run arrivals next n =
@@ -161,8 +161,8 @@ loop-again c =
       marks j .1,
     )
 
-pub pass-spec : {M : Type 1} → statement M
-pass-spec =
+pub predict-spec : {M : Type 1} → statement M
+predict-spec =
     tie.close
     (tie.spec
     Inv-loop

@@ -1,0 +1,107 @@
+/*
+ * walk.c - the walk along a brake curve, and which targets call.
+ */
+
+static void averages(const profile_read *profile, int64_t head, int64_t length, int64_t *grade,
+                     int64_t *curve)
+{
+    int64_t grade_feet = 0, curve_feet = 0;
+    for (int i = 0; i + 1 < profile->records; i++) {
+        int64_t from = greatest(profile->start[i], head - length);
+        int64_t to = least(profile->start[i + 1], head);
+        if (to > from) {
+            grade_feet += profile->grade[i] * (to - from);
+            curve_feet += profile->curve[i] * (to - from);
+        }
+    }
+    *grade = down(grade_feet, length);
+    *curve = curve_feet / length;
+}
+
+static brake_curve service_curve(const plain_consist *train, const plain_brakes *brakes)
+{
+    int64_t a = brakes->a, b = brakes->b;
+    return (brake_curve){ b, 5, 2 * train->set, 7 * train->application, greatest(a - (5 * a + 2 * b) / 7, 0) };
+}
+
+/* In states 3 and 4 A and equalization are as held; else of brakes that start emergency here. */
+static brake_curve emergency_curve(const plain_consist *train, const plain_brakes *brakes)
+{
+    plain_brakes applied = *brakes;
+    if (brakes->state != APPLYING_EMERGENCY && brakes->state != HOLDING_EMERGENCY)
+        combine(&applied, nominal_of(train, brakes->last_front, brakes->last_rear));
+    int64_t most = greatest(applied.a - applied.equalization, 0);
+    return (brake_curve){ applied.b, 12, most, 10000, most };
+}
+
+static int64_t brake_force(const plain_consist *train, const brake_curve *by, int64_t t)
+{
+    int64_t drop = least(by->slope * t / by->per, by->most);
+    return train->rated * (by->base + by->gain * drop / 2) / 6400;
+}
+
+static int64_t loss(const plain_consist *train, int64_t force, int64_t s, int64_t q, int64_t grade,
+                    int64_t curve)
+{
+    int64_t weight = train->weight;
+    int64_t opposing = 1000000 * force + 600000 * weight + 20000000 * train->axles
+        + 100 * weight * s + 7 * train->cars * q + 200000 * weight * grade + 8000 * weight * curve;
+    return down(1449 * opposing, 605000 * weight);
+}
+
+/* One walk: the stop, and the location for each target speed. */
+static void predict(const plain_consist *train, const brake_curve *by, const sample_read *sample,
+                    const profile_read *profile, const targets_read *targets, prediction *found)
+{
+    int64_t head = sample->head, q = sample->speed * sample->speed, t = 0;
+
+    for (int i = 0; i < targets->records; i++)
+        found->location[i] = NO_STOP;
+    for (int step = 0;; step++) {
+        for (int i = 0; i < targets->records; i++)
+            if (found->location[i] == NO_STOP
+                && q <= (int64_t)targets->speed[i] * targets->speed[i])
+                found->location[i] = head;
+        if (q <= 0 || step == STEPS)
+            break;
+        int64_t s = root(q), grade, curve;
+        averages(profile, head, train->length, &grade, &curve);
+        q -= loss(train, brake_force(train, by, t), s, q, grade, curve);
+        t += 12000000 / (11 * s);
+        head += STEP_FEET;
+    }
+    found->stop = q <= 0 ? head : NO_STOP;
+}
+
+static int64_t target_offset(int64_t offset, int64_t v, int64_t u)
+{
+    return v <= u ? 0 : up(offset * (v * v - u * u), v * v);
+}
+
+static bool judged(const sample_read *sample, int64_t target)
+{
+    return target >= sample->head && target <= sample->head + REACH;
+}
+
+/* The first target that calls the penalty, from 1; 0 for none. */
+static int called(const plain_session *session, const sample_read *sample,
+                  const targets_read *targets, const prediction *found)
+{
+    for (int i = 0; i < targets->records; i++) {
+        int64_t target = targets->location[i];
+        int64_t offset = target_offset(session->train.offset, sample->speed, targets->speed[i]);
+        if (judged(sample, target) && found->location[i] + offset > target)
+            return i + 1;
+    }
+    return 0;
+}
+
+/* The first that calls emergency: no stop is a number past every target. */
+static int emergency_called(const sample_read *sample, const targets_read *targets, int64_t stop)
+{
+    for (int i = 0; i < targets->records; i++)
+        if (judged(sample, targets->location[i]) && targets->speed[i] == 0
+            && stop >= targets->location[i])
+            return i + 1;
+    return 0;
+}
