@@ -40,7 +40,7 @@ extern "C" {
 
 /* The version of this header, major * 1,000,000 + minor * 1,000 + patch. */
 #define BUONGILACH_VERSION_MAJOR 4
-#define BUONGILACH_VERSION_MINOR 0
+#define BUONGILACH_VERSION_MINOR 1
 #define BUONGILACH_VERSION_PATCH 0
 #define BUONGILACH_VERSION (BUONGILACH_VERSION_MAJOR * 1000000 + BUONGILACH_VERSION_MINOR * 1000 + BUONGILACH_VERSION_PATCH)
 
@@ -124,6 +124,10 @@ uint8_t buongilach_open(uint8_t *session, size_t session_bytes, const uint8_t *c
  * judged at each call, and the targets may change from call to call. Accepted: the record is the next session's, and the first 16
  * bytes of `decision` are two decisions, each to be read by buongilach_read_decision: bytes 0 to 7 are the penalty's, 8 to 15
  * emergency's.
+ * The penalty is called for a target ahead where the train, braked from here on, is not down to its speed for good, by the target's
+ * offset before it: what counts is the head from which, to the end of the predicted run, its speed stays at or below the target's.
+ * A train that is below that speed and would speed up past it again, downhill, is called for too; and where there is no stop, every
+ * target from the head to 32,768 ft ahead calls, whatever its speed.
  * Emergency is predicted from the sample that calls the penalty on. It is called where the stop by emergency air is at or past a
  * target of speed 0 that lies from the head to 32,768 ft ahead, and once called it stands until a session is opened anew, whatever
  * targets are lent afterwards. There is no emergency without a penalty.

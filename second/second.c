@@ -11,11 +11,15 @@
  * With -DSECOND_CHECKED, as the build with sanitizers has it, the program ends
  * where what second_holds() says does not hold.
  *
+ * With -DSECOND_FIRST_CROSSING the location for a target speed is document 01's
+ * first crossing in place of R-2's, so that a tool can count the samples that the
+ * two answer otherwise (decision 120).
+ *
  * It takes the direct way everywhere: fields bit by bit, one walk for the stop,
- * one more for each target and one for emergency, the whole profile looked through at every
- * step.  Each function is headed by the phrase of 01, or of a request of 02, that
- * it does; "decision 8" is a point of docs/DECISIONS.md.  There is no floating
- * point.
+ * one more for each target and one for emergency, each kept from its first head to
+ * its last, the whole profile looked through at every step.  Each function is headed
+ * by the phrase of 01, or of a request of 02, that it does; "decision 8" is a point
+ * of docs/DECISIONS.md.  There is no floating point.
  *
  * Its parts stand in files of their own, in the order of 01, and each uses those
  * before it; this one file has them all.

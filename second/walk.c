@@ -101,21 +101,28 @@ int64_t second_step_time(int64_t s)
     return 12000000 / (11 * s);
 }
 
-/* "The walk starts after the update, with A, B and clock t = 0, squared speed
- * q = speed squared.  Steps of 16 ft, at most 2,048, made while q is above 0.
- * The stopping location is the head when q first is 0 or less.  The location
- * for a target speed is the head when q first is at or below that speed
- * squared."  One walk for one limit; the stop's limit is 0.  The answer is the
- * location, SECOND_NO_STOP without one. */
-int64_t second_walk(const second_consist *train, const second_air *air,
-                    const second_sample *sample, const second_profile *profile, int64_t limit)
+/* A walk from its first head to its last, and q at each of them. */
+typedef struct {
+    int64_t steps;         /* made, the last head's place */
+    int64_t head[SECOND_STEPS + 1], q[SECOND_STEPS + 1];
+} second_walked;
+
+/* "It starts after the update, with A, B and clock t = 0, squared speed q = speed
+ * squared.  Steps of 16 ft, at most 2,048, made while q is above 0.  In each step,
+ * from the values at its start." */
+void second_make_walk(second_walked *walked, const second_consist *train,
+                      const second_air *air, const second_sample *sample,
+                      const second_profile *profile)
 {
-    int64_t head = sample->head;
     int64_t start = sample->speed * sample->speed;
     int64_t q = start;
+    int64_t head = sample->head;
     int64_t t = 0;
+    int64_t step = 0;
 
-    for (int step = 0; step < SECOND_STEPS && q > limit * limit; step++) {
+    walked->head[0] = head;
+    walked->q[0] = q;
+    while (step < SECOND_STEPS && q > 0) {
         int64_t s = second_root(q);
         int64_t grade, curve;
         second_averages(profile, head, train->length, &grade, &curve);
@@ -125,10 +132,73 @@ int64_t second_walk(const second_consist *train, const second_air *air,
         q -= second_loss(train, opposing);
         t += second_step_time(s);
         head += SECOND_STEP_FEET;
-        second_holds(q <= start + (int64_t)SECOND_STEP_GAIN * (step + 1));
+        step += 1;
+        second_holds(q <= start + SECOND_STEP_GAIN * step);
         second_holds(q <= SECOND_SQUARE_MOST);
+        walked->head[step] = head;
+        walked->q[step] = q;
     }
-    return q <= limit * limit ? head : SECOND_NO_STOP;
+    walked->steps = step;
+}
+
+/* "The stopping location is the head when q first is 0 or less."  Without one there
+ * is none. */
+int64_t second_stop(const second_walked *walked)
+{
+    for (int64_t i = 0; i <= walked->steps; i++)
+        if (walked->q[i] <= 0)
+            return walked->head[i];
+    return SECOND_NO_STOP;
+}
+
+#ifndef SECOND_FIRST_CROSSING
+
+/* "A walk cut at its step limit with q above 0" (02, R-2).  A q of 0 at the last
+ * step is no cut (decision 117). */
+int second_cut(const second_walked *walked)
+{
+    return walked->q[walked->steps] > 0;
+}
+
+/* "The location becomes the first head from which, to the end of the walk, the
+ * speed stays at or below the target's.  A walk cut at its step limit with q above
+ * 0 has no location" (02, R-2).  The search goes back from the walk's end, for only
+ * what comes after a head tells whether the speed stays.  "A train already below the
+ * target speed is treated alike": the walk's first head is one as the others. */
+int64_t second_location(const second_walked *walked, int64_t limit)
+{
+    if (second_cut(walked))
+        return SECOND_NO_STOP;
+    int64_t first = walked->steps;      /* q is 0 or less there, above no limit */
+    while (first > 0 && walked->q[first - 1] <= limit * limit)
+        first -= 1;
+    return walked->head[first];
+}
+
+#else
+
+/* "The location for a target speed is the head when q first is at or below that
+ * speed squared.  Without one in 2,048 steps there is none": document 01 alone. */
+int64_t second_location(const second_walked *walked, int64_t limit)
+{
+    for (int64_t i = 0; i <= walked->steps; i++)
+        if (walked->q[i] <= limit * limit)
+            return walked->head[i];
+    return SECOND_NO_STOP;
+}
+
+#endif
+
+/* One walk for one limit, the stop's being 0: "for a stop nothing changes" (02,
+ * R-2).  The answer is the location, SECOND_NO_STOP without one. */
+int64_t second_walk(const second_consist *train, const second_air *air,
+                    const second_sample *sample, const second_profile *profile, int64_t limit)
+{
+    second_walked walked;
+    second_make_walk(&walked, train, air, sample, profile);
+    int64_t location = second_location(&walked, limit);
+    second_holds(limit != 0 || location == second_stop(&walked));
+    return location;
 }
 
 /* "It starts after the update, with A, B": the air as it is held, in every state
@@ -159,7 +229,8 @@ int64_t second_target_offset(int64_t offset, int64_t v, int64_t u)
 
 /* "The penalty is called when location plus offset is greater than the target.
  * Without [a location] there is none, and it counts as beyond every target."
- * Whether this one calls. */
+ * Whether this one calls; "a train already below the target speed is treated alike"
+ * (02, R-2), so that no target is passed over for the speed it allows. */
 int second_calls(const second_session *session, const second_sample *sample,
                  const second_profile *profile, int64_t target, int64_t speed)
 {

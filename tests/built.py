@@ -14,6 +14,8 @@ SECOND = os.path.join(ROOT, "second", "second.c")
 COMPILE = ["gcc", "-std=c11", "-Wall", "-Wextra", "-Werror"]
 # With sanitizers, and what second_holds() says tested.
 CHECKED = ["-O1", "-g", "-fsanitize=undefined,address", "-fno-sanitize-recover=all", "-DSECOND_CHECKED"]
+# With the location for a target speed that document 01 has without R-2.
+FIRST_CROSSING = "-DSECOND_FIRST_CROSSING"
 
 
 @functools.cache
@@ -44,17 +46,17 @@ def library(name, *words):
 
 
 @functools.cache
-def second():
-    """The second program."""
-    return build("second", "-O2", SECOND)
+def second(*words):
+    """The second program, or a build of it."""
+    return build("second" + "".join(words), "-O2", *words, SECOND)
 
 
 @functools.cache
-def core():
-    """The second program's core, its functions to be called one by one."""
-    made = library("core.so", "-DSECOND_NO_MAIN", SECOND, os.path.join(ROOT, "tests", "loss.c"))
+def core(*words):
+    """The second program's core, or a build of it, its functions to be called one by one."""
+    made = library("core%s.so" % "".join(words), *words, "-DSECOND_NO_MAIN", SECOND, os.path.join(ROOT, "tests", "loss.c"))
     for name in ("root", "hundredths_up", "hundredths_down", "service_equalization", "nominal",
-                 "cylinder", "brake_force", "step_time", "target_offset", "bits"):
+                 "cylinder", "brake_force", "step_time", "stop", "location", "walk", "target_offset", "bits"):
         getattr(made, "second_" + name).restype = ctypes.c_int64
     made.loss_of.restype = ctypes.c_int64
     return made

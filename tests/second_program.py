@@ -18,9 +18,9 @@ CASE = ((0, 5000, "0.0", "90.0", "90.0"), (1, 5000, "1.0", "90.0", "90.0"),
         (2, 5001, "0.0", "90.0", "90.0"))
 
 
-def run(data):
-    """What the program prints for a feed."""
-    done = subprocess.run([built.second()], input=data, stdout=subprocess.PIPE,
+def run(data, *build):
+    """What the program prints for a feed, or a build of it."""
+    done = subprocess.run([built.second(*build)], input=data, stdout=subprocess.PIPE,
                           stderr=subprocess.PIPE, check=False)
     if done.returncode != 0 or done.stderr:
         raise AssertionError("status %d: %s" % (done.returncode, done.stderr.decode()))
@@ -65,9 +65,9 @@ def told(lines):
     return pairs
 
 
-def both(samples, **more):
+def both(samples, build=(), **more):
     """The pairs of lines for such a feed."""
-    return told(run(made(samples, **more)).splitlines())
+    return told(run(made(samples, **more), *build).splitlines())
 
 
 def printed(samples, **more):
@@ -114,6 +114,11 @@ class Decision(ctypes.Structure):
 class Sample(ctypes.Structure):
     _fields_ = [(name, ctypes.c_int64) for name in ("time", "head", "speed", "front", "rear")] \
         + [("rear_present", ctypes.c_int)]
+
+
+class Air(ctypes.Structure):
+    _fields_ = [("emergency", ctypes.c_int)] + [
+        (name, ctypes.c_int64) for name in ("a", "b", "equalization")]
 
 
 def whole(*numbers):

@@ -5,7 +5,8 @@ import subprocess
 import tempfile
 import unittest
 
-from here import PYTHON, TOOLS, feeds
+from feed_texts import TRAIN
+from here import PYTHON, TOOLS, feeds, load
 
 COMPARE = os.path.join(TOOLS, "compare")
 
@@ -21,6 +22,16 @@ class Compare(unittest.TestCase):
         self.place = tempfile.TemporaryDirectory()
         self.addCleanup(self.place.cleanup)
 
+    def saying(self, said, after=""):
+        """A program that takes no arguments: it prints that, and then does what is to come after."""
+        folder = tempfile.TemporaryDirectory()
+        self.addCleanup(folder.cleanup)
+        path = os.path.join(folder.name, "program")
+        with open(path, "w") as file:
+            file.write("#!/bin/sh\nprintf '%s'\n%s\n" % (said, after))
+        os.chmod(path, 0o755)
+        return path
+
     def run_compare(self, *words):
         done = subprocess.run([*PYTHON, COMPARE, *words], stdout=subprocess.PIPE,
                               stderr=subprocess.PIPE, check=False, cwd=self.place.name)
@@ -31,6 +42,7 @@ class Compare(unittest.TestCase):
         self.assertEqual(status, 0, out)
         self.assertIn("compared 7 feeds, 7 lines", out)
         self.assertIn("no difference", out)
+        self.assertNotIn("rises", out)
 
     def test_difference_is_saved(self):
         first = 100
@@ -83,6 +95,17 @@ class Compare(unittest.TestCase):
         self.assertIn("emergency cause 8 in state 5, a runaway\n", out)
         self.assertEqual(self.run_compare("299", "--", "true", "--", "true")[0], 0)
 
+    def test_what_rises_never_occurred(self):
+        tally = load("compare").Tally
+        named = {"above": "a rise", "below": "a rise of a train already below", "cut, below": "a cut walk below a target's speed"}
+        self.assertEqual(tally(2, None).missing()[-1], "a runaway")
+        self.assertEqual(tally(2, "true").missing()[-4:], ["a runaway", *named.values()])
+        for shown, name in named.items():
+            one = tally(2, "true")
+            one.rises[shown] += 1
+            self.assertNotIn(name, one.missing())
+            self.assertEqual(len(one.missing()), len(tally(2, "true").missing()) - 1)
+
     def test_emergency_is_counted(self):
         # On each of 3 feeds: a sample without emergency, one that calls it, two in which it stands, a refused one.
         said = ("0 0 0 0 7\n0 0 0 0 0\n1 3 1 2 7\n1 3 1 5 7\nx 8\n2 4 1 2 7\n2 4 1 5 7\n3 4 1 2 7\n3 4 1 5 7\n")
@@ -115,13 +138,92 @@ class Compare(unittest.TestCase):
         self.assertEqual(status, 0)
         self.assertIn("\nrunaways  0\n", out)
 
+    def test_rises_are_counted(self):
+        # Of three samples the second calls the penalty, by the first target.  By the first crossing it is not called, or a
+        # sample later.
+        count, ours = 16, "0 0 0 0 %d\n0 0 0 0 0\n1 0 1 1 %d\n1 0 0 0 7\n2 0 1 1 %d\n2 0 0 0 7\n"
+        later = ours.replace("1 0 1 1 %d\n1 0 0 0 7", "1 0 0 0 %d\n1 0 0 0 0")
+        never = later.replace("2 0 1 1 %d\n2 0 0 0 7", "2 0 0 0 %d\n2 0 0 0 0")
+        parts = [feeds.split(feeds.random_feed(seed, "undulating")) for seed in range(count)]
+        below = sum(feeds.unpack(targets[1:6], feeds.TARGET_WIDTHS)[1]
+                    >= 100 * feeds.value_of(feeds.unpack(samples[1], feeds.SAMPLE_WIDTHS)[5]) for _, _, targets, samples in parts)
+        above = count - below
+        self.assertTrue(above and below)
+        for others, samples, stop, classes in ((never, 2, 7, (above, below, 0, 0)), (later, 1, 7, (above, below, 0, 0)),
+                                               (never, 2, 16777215, (0, 0, above, below)), (ours, 0, 7, (0, 0, 0, 0))):
+            program = self.saying(ours % (3 * (stop,)))
+            status, out, _ = self.run_compare(str(count), "--kind", "undulating", "--first-crossing",
+                                              self.saying(others % (3 * (stop,))), "--", program, "--", program)
+            self.assertEqual(status, 0, out)
+            self.assertIn("\nrises     %d feeds, %d samples; above:%d  below:%d  cut, above:%d  cut, below:%d\n"
+                          % (sum(classes), samples * count, *classes), out)
+            self.assertIn("program 3 0:%d\n" % count, out)
+
+    def test_first_crossing_that_differs_otherwise(self):
+        program = self.saying("0 0 1 1 7\n0 0 0 0 7\n")
+        for said, line in (("0 0 0 0 8\n0 0 0 0 0\n", "0 0 0 0 8"), ("x 8\n", "x 8"), ("", "(ended)")):
+            status, out, _ = self.run_compare("3", "--kind", "undulating", "--first-crossing", self.saying(said),
+                                              "--", program, "--", program)
+            self.assertEqual(status, 1)
+            self.assertIn("seed 0 (undulating): the outputs differ;", out)
+            self.assertIn("line 1 of program 1: 0 0 1 1 7\nline 1 of program 3: %s\n" % line, out)
+        status, out, _ = self.run_compare("3", "--first-crossing", self.saying("", "kill -SEGV $$"), "--", "true", "--", "true")
+        self.assertEqual(status, 1)
+        self.assertIn("program 3 was ended by signal 11\n", out)
+
+    def test_a_difference_beside_a_rise(self):
+        # what the first crossing says is not what a difference is told by
+        ours, other = (self.saying("0 0 1 %d 7\n0 0 0 0 7\n" % cause) for cause in (1, 2))
+        status, out, _ = self.run_compare("3", "--kind", "undulating", "--first-crossing", self.saying("0 0 0 0 7\n0 0 0 0 0\n"),
+                                          "--", ours, "--", other)
+        self.assertEqual(status, 1)
+        self.assertIn("line 1 of program 1: 0 0 1 1 7\nline 1 of program 2: 0 0 1 2 7\n", out)
+
     def test_command_line(self):
         for words in ((), ("5",), ("5", "--", "true"), ("x", "--", "true", "--", "true"),
                       ("5", "--", "true", "--"), ("0", "--", "true", "--", "true"),
                       ("5", "--kind", "none", "--", "true", "--", "true"),
+                      ("5", "--first-crossing", "--", "true", "--", "true"),
+                      ("5", "--first-crossing", "/nonexistent/program", "--", "true", "--", "true"),
                       ("5", "--", "/nonexistent/program", "--", "true")):
             with self.subTest(words=words):
                 self.assertEqual(self.run_compare(*words)[0], 2)
+
+
+class Rises(unittest.TestCase):
+    """What the count makes of a feed: a train at 20 mph, then above it, with targets of that speed and a hundredth less."""
+
+    FEED = feeds.make(TRAIN + "profile 0\nprofile 40000\ntarget 5000 speed 2000\ntarget 6000 speed 1999\n"
+                      "sample 0 head 5000 speed 20.0 front 90.0 rear 90.0\nsample 1 head 5000 speed 20.001 front 90.0 rear 90.0\n")
+    CUT = 16777215
+
+    def said(self, *causes, stop=7, state=0):
+        return "".join("%d %d %d %d %d\n%d %d 0 0 0\n" % (time, state, cause > 0, cause, stop, time, state)
+                       for time, cause in enumerate(causes)).encode()
+
+    def test_what_the_first_shows(self):
+        for causes, others, stop, want in (
+                ((1, 1), (0, 0), 7, (2, "below")), ((2, 2), (0, 2), 7, (1, "above")), ((0, 1), (0, 0), 7, (1, "above")),
+                ((1, 1), (2, 2), 7, (2, "below")), ((1, 1), (0, 0), self.CUT, (2, "cut, below")),
+                ((2, 2), (0, 0), self.CUT, (2, "cut, above")), ((1, 1), (1, 1), 7, (0, None)), ((), (), 7, (0, None))):
+            with self.subTest(causes=causes, others=others, stop=stop):
+                self.assertEqual(feeds.rise(self.FEED, self.said(*causes, stop=stop), self.said(*others, stop=stop)), want)
+
+    def test_what_no_rise_explains(self):
+        called, none = self.said(1, 1), self.said(0, 0)
+        for said, other in (
+                # a call less, an earlier target
+                (none, called), (self.said(2, 2), called),
+                # another stop, state, number of samples or refusal
+                (called, self.said(0, 0, stop=8)), (called, self.said(0, 0, state=1)), (called, self.said(0)), (called, b""),
+                (called, b"x 8\n" + self.said(0)), (b"gone", b"x 8\n"),
+                # emergency's line alone, the penalty's bit alone
+                (called, called.replace(b"1 0 0 0 0\n", b"1 0 1 1 0\n")), (called, called.replace(b"0 0 1 1", b"0 0 0 1")),
+                # a target and a sample that the feed has not
+                (self.said(3, 3), none), (self.said(0, 0, 1), self.said(0, 0, 0))):
+            with self.subTest(said=said, other=other):
+                self.assertEqual(feeds.rise(self.FEED, said, other)[1], feeds.UNLIKE)
+        self.assertEqual(feeds.rise(b"", called, none)[1], feeds.UNLIKE)
 
 
 if __name__ == "__main__":

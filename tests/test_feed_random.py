@@ -8,7 +8,7 @@ from here import feeds
 from second_program import run as second, told
 
 # Of the feeds of seeds 0 to 199; changes only when the generator is changed on purpose.
-DIGEST = "215ad53252b37cd72e20de26cb5d751f50a539837c1e52be2347019d98da3ff7"
+DIGEST = "ce79245e3e7a717b467b13d12b649bb3eb35ccc9f5574b7fc15ba790babb1283"
 
 
 class Random(unittest.TestCase):
@@ -99,7 +99,7 @@ class Emergencies(unittest.TestCase):
             called = next(place for place, one in enumerate(emergencies) if one[2])
             with self.subTest(number=number):
                 _, state, _, cause, _ = emergencies[called]
-                self.assertEqual((cause, state), (number % 8 + 1, (number + number // 24) % 6))
+                self.assertEqual((cause, state), (number % 8 + 1, (number - number // 24) % 6))
                 self.assertEqual({one[1] for one in emergencies[called:]}, set(range(6)))
             wanted.add((cause, state))
             before += penalties[called - 1][2] if called else 0
@@ -110,14 +110,14 @@ class Emergencies(unittest.TestCase):
         self.assertGreater(others, 2)
 
     def test_any_three_hundred_seeds_have_all(self):
-        for first in range(0, 27):
-            numbers = [seed // 27 for seed in range(first, first + 300) if feeds.kind_of(seed) == "emergency"]
-            self.assertGreaterEqual(len(numbers), 11)
-        # eleven in a row, wherever they begin
-        for first in range(100):
-            row = range(first, first + 11)
+        for first in range(0, 30):
+            numbers = [seed // 30 for seed in range(first, first + 300) if feeds.kind_of(seed) == "emergency"]
+            self.assertGreaterEqual(len(numbers), 10)
+        # ten in a row, wherever they begin
+        for first in range(150):
+            row = range(first, first + 10)
             self.assertEqual({number % 8 for number in row}, set(range(8)))
-            self.assertEqual({(number + number // 24) % 6 for number in row}, set(range(6)))
+            self.assertEqual({(number - number // 24) % 6 for number in row}, set(range(6)))
 
 
 class Answers(unittest.TestCase):

@@ -82,11 +82,13 @@ class Alike(unittest.TestCase):
 
     def test_a_slip_is_seen(self):
         """The comparison can fail: a penalty at equality, on the case of document 01; emergency past its board alone, and
-        with 10 in place of 12, on the issue's vector."""
+        with 10 in place of 12; the first crossing kept, and a cut walk with locations, on R-2's vectors."""
         for number, (old, new, name) in enumerate((
                 ("found->location[i] + offset > target", "found->location[i] + offset >= target", "case-5532"),
                 ("stop >= targets->location[i]", "stop > targets->location[i]", "figures/emergency-at-the-board"),
-                ("applied.b, 12, most", "applied.b, 10, most", "figures/emergency-at-the-board"))):
+                ("applied.b, 12, most", "applied.b, 10, most", "figures/emergency-at-the-board"),
+                ("if (q > speed * speed)", "if (q > speed * speed && location == NO_STOP)", "figures/rise-past-target"),
+                ("q > 0 && i < targets->records", "false && i < targets->records", "figures/cut-below-target"))):
             with self.subTest(new=new):
                 slip = self.slipped(number, old, new)
                 self.assertTrue(self.difference(slip, feeds.make(example(name))))

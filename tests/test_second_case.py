@@ -2,6 +2,7 @@
 
 import unittest
 
+from built import FIRST_CROSSING
 from here import example, examples, feeds
 from second_program import CASE, both, run, told
 
@@ -23,16 +24,35 @@ class Case(unittest.TestCase):
 class Examples(unittest.TestCase):
     """Every example prints the lines after its `#>` marks."""
 
+    def lines(self, name):
+        """Those that an example states, and those that are printed for it."""
+        words = example(name)
+        lines = run(feeds.make(words)).splitlines()
+        told(lines)
+        return [line[3:] for line in words.split("\n") if line.startswith("#> ")], lines
+
     def test_examples(self):
         self.assertGreaterEqual(len(examples()), 8)
         for name in examples():
-            words = example(name)
-            want = [line[3:] for line in words.split("\n") if line.startswith("#> ")]
             with self.subTest(name=name):
+                want, lines = self.lines(name)
                 self.assertGreater(len(want), 0)
-                lines = run(feeds.make(words)).splitlines()
                 self.assertEqual(lines, want)
-                told(lines)
+
+    def test_figures(self):
+        # The long trips state no lines.
+        for name in examples("figures"):
+            with self.subTest(name=name):
+                want, lines = self.lines("figures/" + name)
+                if want or not name.startswith("trip-"):
+                    self.assertEqual(lines, want)
+
+    def test_where_the_first_crossing_answers_otherwise(self):
+        # Those that show R-2 (02), and no other.
+        names = examples() + ["figures/" + name for name in examples("figures")]
+        other = [name for name in names if run(feeds.make(example(name)), FIRST_CROSSING) != run(feeds.make(example(name)))]
+        self.assertEqual(other, ["long-descent", "rolling-hills", "figures/cut-below-target", "figures/rise-from-below",
+                                 "figures/rise-past-target"])
 
 
 if __name__ == "__main__":

@@ -5,7 +5,7 @@ import unittest
 
 from built import core
 from here import example, feeds
-from second_program import Brakes, CONSIST, Decision, Session, both, made, mph, psi, run, told, whole
+from second_program import Air, Brakes, CONSIST, Decision, Session, both, made, mph, psi, run, told, whole
 
 # The train of 01's case on a longer level track.
 LONG = "profile 0\nprofile 60000\n"
@@ -47,9 +47,6 @@ class Curve(unittest.TestCase):
 
     def air(self, **held):
         """What the curve starts from: A and equalization."""
-        class Air(ctypes.Structure):
-            _fields_ = [("emergency", ctypes.c_int)] + [
-                (name, ctypes.c_int64) for name in ("a", "b", "equalization")]
         session = Session(open=1, begun=1, train=CONSIST, brakes=Brakes(**held))
         before = bytes(session)
         core().second_emergency_air.restype = Air

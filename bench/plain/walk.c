@@ -49,7 +49,16 @@ static int64_t loss(const plain_consist *train, int64_t force, int64_t s, int64_
     return down(1449 * opposing, 605000 * weight);
 }
 
-/* One walk: the stop, and the location for each target speed. */
+/* Open where the train is above the target's speed, though it was below before. */
+static int64_t marked(int64_t location, int64_t speed, int64_t head, int64_t q)
+{
+    if (q > speed * speed)
+        return NO_STOP;
+    return location == NO_STOP ? head : location;
+}
+
+/* One walk: the stop, and from where on the train stays at or below each target speed.  A walk that
+ * is cut has none of them. */
 static void predict(const plain_consist *train, const brake_curve *by, const sample_read *sample,
                     const profile_read *profile, const targets_read *targets, prediction *found)
 {
@@ -59,9 +68,7 @@ static void predict(const plain_consist *train, const brake_curve *by, const sam
         found->location[i] = NO_STOP;
     for (int step = 0;; step++) {
         for (int i = 0; i < targets->records; i++)
-            if (found->location[i] == NO_STOP
-                && q <= (int64_t)targets->speed[i] * targets->speed[i])
-                found->location[i] = head;
+            found->location[i] = marked(found->location[i], targets->speed[i], head, q);
         if (q <= 0 || step == STEPS)
             break;
         int64_t s = root(q), grade, curve;
@@ -71,6 +78,8 @@ static void predict(const plain_consist *train, const brake_curve *by, const sam
         head += STEP_FEET;
     }
     found->stop = q <= 0 ? head : NO_STOP;
+    for (int i = 0; q > 0 && i < targets->records; i++)
+        found->location[i] = NO_STOP;
 }
 
 static int64_t target_offset(int64_t offset, int64_t v, int64_t u)

@@ -80,6 +80,24 @@ unsigned try_open(part session_before, part consist_given, uint8_t *opened)
     return answer;
 }
 
+/* The sample's speed in hundredths of a mph, exactly. */
+static double hundredths_of_speed(void)
+{
+    uint32_t bits = (uint32_t)second_bits(sample.bytes, 64, 32);
+    float mph;
+    memcpy(&mph, &bits, sizeof mph);
+    return 100.0 * mph;
+}
+
+/* Whether the penalty was called, with a stop, for a target that allows the train's own speed: it must have sped up again. */
+static bool has_sped_up(const second_session *before, const second_session *after)
+{
+    if (before->cause != 0 || after->cause == 0 || second_bits(out.bytes, 40, 24) == BUONGILACH_NO_STOP)
+        return false;
+    const uint8_t *target = targets.bytes + (after->cause - 1) * BUONGILACH_TARGET_RECORD_BYTES;
+    return hundredths_of_speed() <= (double)second_bits(target, 24, 16);
+}
+
 /* The library's answer and the session that follows, counted; `before` is the one that it was lent. */
 static void count_sample(unsigned answer, part before, uint8_t *next)
 {
@@ -91,6 +109,7 @@ static void count_sample(unsigned answer, part before, uint8_t *next)
     if (expected_held(part_of(session.bytes, session.count), &held) && expected_held(before, &was)) {
         tried.states[held.brakes.state]++;
         tried.called[held.brakes.state] += was.emergency == 0 && held.emergency != 0;
+        tried.sped_up += has_sped_up(&was, &held);
     }
     if (out.count >= BUONGILACH_DECISION_BYTES)
         tried.unstopped += second_bits(out.bytes, 40, 24) == BUONGILACH_NO_STOP;

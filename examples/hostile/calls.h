@@ -13,6 +13,7 @@ typedef struct {
     unsigned long states[6];   /* of accepted ones */
     unsigned long unstopped;   /* accepted without a stop */
     unsigned long called[6];   /* accepted ones that called emergency, by state */
+    unsigned long sped_up;     /* accepted ones that stop, and called the penalty for a target that allows their speed */
 } tally;
 
 extern tally tried;

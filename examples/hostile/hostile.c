@@ -1,8 +1,8 @@
 /*
  * hostile.c - runs the C library on what a careless or hostile host may lend it: buffers of every size, sessions with each byte
  * changed to each value, two bytes changed, the check word put right after a change, random bytes everywhere; trains that run
- * away, and trains that run past a board, with other targets afterwards. Each answer and every lent byte is held to the second
- * program's rules.
+ * away, trains that speed up again on ups and downs, and trains that run past a board, with other targets afterwards. Each answer
+ * and every lent byte is held to the second program's rules.
  *
  *     tools/cc-mounted target/hostile -DSECOND_NO_MAIN examples/hostile/[a-z]*.c second/second.c
  *     tools/launch --static target/hostile [--denormals-are-zero] [SEED [TIMES]]
@@ -25,6 +25,7 @@
 enum {
     TRIPS = 300,
     RUNAWAYS = 6,
+    HILLS = 40,
     BOARDS_A_STATE = 30,
     SAMPLES = 15,
     SIZED_TRIPS = 3,
@@ -90,6 +91,19 @@ static void run_runaways(void)
             unsigned long before = tried.unstopped;
             trip_go(&t);
             run_away += tried.unstopped - before;
+        }
+    }
+}
+
+/* Walks that speed up again, before targets that the train is not faster than. */
+static void run_hills(void)
+{
+    static trip t;
+    for (int i = 0; i < HILLS; i++) {
+        trip_over_hills(&t);
+        for (int j = 0; j < 3; j++) {
+            offer_damaged(&t);
+            trip_go(&t);
         }
     }
 }
@@ -161,8 +175,8 @@ static void touched(int signal_number)
     _exit(1);
 }
 
-/* Every answer of a sample call, every state and a call of emergency in it, trains that run away, sealed changes of both kinds,
- * and a denormal below zero. */
+/* Every answer of a sample call, every state and a call of emergency in it, trains that run away and such as speed up again, sealed
+ * changes of both kinds, and a denormal below zero. */
 static bool all_seen(void)
 {
     static const int answers[] = {0, 1, 2, 3, 6, 7, 8, 9, 10, 12};
@@ -172,7 +186,7 @@ static bool all_seen(void)
     for (int i = 0; i < 6; i++)
         if (tried.states[i] == 0 || tried.called[i] == 0)
             return false;
-    return run_away > 0 && changed.damaged_shut > 0 && changed.sealed_open > 0 && changed.sealed_shut > 0 && made_below_zero > 0;
+    return run_away > 0 && tried.sped_up > 0 && changed.damaged_shut > 0 && changed.sealed_open > 0 && changed.sealed_shut > 0 && made_below_zero > 0;
 }
 
 static void print_counts(void)
@@ -187,7 +201,7 @@ static void print_counts(void)
     printf("; emergency called");
     for (int i = 0; i < 6; i++)
         printf(" %d:%lu", i, tried.called[i]);
-    printf("; running away %lu; denormals below zero %lu", run_away, made_below_zero);
+    printf("; running away %lu; speeding up again %lu; denormals below zero %lu", run_away, tried.sped_up, made_below_zero);
     printf("; sessions with one byte or two changed %lu open, %lu not; with a byte changed and sealed %lu open, %lu not\n",
            changed.damaged_open, changed.damaged_shut, changed.sealed_open, changed.sealed_shut);
 }
@@ -216,7 +230,7 @@ int main(int count, char **words)
     unsigned long long seed = count > 1 ? strtoull(words[1], NULL, 10) : 1;
     unsigned long times = count > 2 ? strtoul(words[2], NULL, 10) : 1;
     /* the longest last: a fault that another finds is found soon */
-    void (*const runs[])(void) = {run_trips, run_runaways, run_boards, run_records, run_sizes, run_noise, run_flips};
+    void (*const runs[])(void) = {run_trips, run_runaways, run_hills, run_boards, run_records, run_sizes, run_noise, run_flips};
     calls_make();
     try_version();
     for (unsigned long i = 0; i < times; i++) {
@@ -226,7 +240,7 @@ int main(int count, char **words)
     }
     print_counts();
     if (!all_seen())
-        fprintf(stderr, "hostile: an answer, a state, a call of emergency, a runaway or a kind of change never occurred\n");
+        fprintf(stderr, "hostile: an answer, a state, a call of emergency, a runaway, a train that speeds up again or a kind of change never occurred\n");
     if (changed.damaged_open > 0)
         fprintf(stderr, "hostile: one byte or two were changed, and the session counted as open\n");
     return tried.faults == 0 && changed.damaged_open == 0 && all_seen() ? 0 : 1;

@@ -108,6 +108,14 @@ void made_consist(uint8_t *record, uint32_t *length)
     second_put_bits(record, 116, 12, made_between(0, 4000));
 }
 
+static void put_segment(uint8_t *record, int64_t start, int64_t grade, int64_t curvature)
+{
+    second_put_bits(record, 0, 24, start);
+    second_put_bits(record, 24, 11, (grade + 2048) % 2048);
+    second_put_bits(record, 35, 11, curvature);
+    second_put_bits(record, 46, 2, 0);
+}
+
 size_t made_profile(uint8_t *records, uint32_t head, uint32_t length)
 {
     size_t count = made_once_in(50) ? 257 : (size_t)made_between(2, 6);
@@ -115,16 +123,27 @@ size_t made_profile(uint8_t *records, uint32_t head, uint32_t length)
     int64_t last = made_once_in(4) ? head + REACH : made_between(head + REACH, LAST_FOOT);
     int64_t steep = made_once_in(4) ? 500 : 60;
     for (size_t i = 0; i < count; i++) {
-        uint8_t *record = records + 6 * i;
         bool end = i + 1 == count;
         int64_t start = first + (last - first) * (int64_t)i / (int64_t)(count - 1);
         int64_t grade = end ? 0 : made_between(-steep, steep);
-        second_put_bits(record, 0, 24, start);
-        second_put_bits(record, 24, 11, (grade + 2048) % 2048);
-        second_put_bits(record, 35, 11, end ? 0 : made_between(0, steep));
-        second_put_bits(record, 46, 2, 0);
+        put_segment(records + 6 * i, start, grade, end ? 0 : made_between(0, steep));
     }
     return 6 * count;
+}
+
+size_t made_rolling(uint8_t *consist, uint8_t *records, uint32_t head, uint32_t length)
+{
+    int64_t weight = second_bits(consist, 20, 15);
+    int64_t last = head + REACH + 10000;
+    size_t count = 0;
+    second_put_bits(consist, 50, 24, made_between(5 * weight, 30 * weight));
+    for (int64_t start = head - length; start < last; start += made_between(400, 3000)) {
+        int64_t steep = made_between(20, 250);
+        put_segment(records + 6 * count, start, count % 2 == 0 ? -steep : steep, 0);
+        count++;
+    }
+    put_segment(records + 6 * count, last, 0, 0);
+    return 6 * (count + 1);
 }
 
 void made_steepest(uint8_t *consist, uint8_t *records, size_t profile_bytes)
@@ -148,6 +167,18 @@ size_t made_targets(uint8_t *records, uint32_t head)
         location += made_between(1, made_once_in(2) ? 1500 : 12000);
         second_put_bits(records + 5 * i, 0, 24, location);
         second_put_bits(records + 5 * i, 24, 16, made_once_in(2) ? 0 : made_between(0, 10000));
+    }
+    return 5 * count;
+}
+
+size_t made_restrictions(uint8_t *records, uint32_t head, uint32_t speed)
+{
+    size_t count = 1 + made_below(8);
+    int64_t location = head;
+    for (size_t i = 0; i < count; i++) {
+        location += made_between(1, 1500);
+        second_put_bits(records + 5 * i, 0, 24, location);
+        second_put_bits(records + 5 * i, 24, 16, speed + made_below(1000));
     }
     return 5 * count;
 }

@@ -38,6 +38,13 @@ size_t made_profile(uint8_t *records, uint32_t head, uint32_t length);
  * straight down the steepest grade. */
 void made_steepest(uint8_t *consist, uint8_t *records, size_t profile_bytes);
 
+/* That consist made one with weak brakes, and a profile of ups and downs, each shorter than the walk of such a train; the answer is
+ * the profile's bytes. */
+size_t made_rolling(uint8_t *consist, uint8_t *records, uint32_t head, uint32_t length);
+
+/* Targets ahead that allow the train's speed, of 90 mph at most, or more. */
+size_t made_restrictions(uint8_t *records, uint32_t head, uint32_t speed);
+
 /* Targets before and behind the head. */
 size_t made_targets(uint8_t *records, uint32_t head);
 

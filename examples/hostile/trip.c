@@ -28,28 +28,38 @@ static void begin(trip *t)
     t->profile_bytes = made_profile(t->profile, t->head + 1000, t->length + 1000);
     if (t->steepest)
         made_steepest(t->consist, t->profile, t->profile_bytes);
-    t->targets_bytes = made_targets(t->targets, t->head);
+    if (t->rolling)
+        t->profile_bytes = made_rolling(t->consist, t->profile, t->head, t->length);
     t->time = made_once_in(10) ? 16777210 : made_below(1000000);
     t->speed = made_speed(t);
+    t->targets_bytes = t->rolling ? made_restrictions(t->targets, t->head, t->speed) : made_targets(t->targets, t->head);
     t->front = (uint32_t)made_between(7000, 11000);
     make_sample(t);
     try_open(part_of(before, t->session_bytes), part_of(t->consist, sizeof t->consist), t->session);
 }
 
-void trip_begin(trip *t, uint32_t fastest)
+static void begin_with(trip *t, bool steepest, bool rolling, uint32_t slowest, uint32_t fastest)
 {
-    t->steepest = false;
-    t->slowest = 0;
+    t->steepest = steepest;
+    t->rolling = rolling;
+    t->slowest = slowest;
     t->fastest = fastest;
     begin(t);
 }
 
+void trip_begin(trip *t, uint32_t fastest)
+{
+    begin_with(t, false, false, 0, fastest);
+}
+
 void trip_run_away(trip *t)
 {
-    t->steepest = true;
-    t->slowest = 9 * FAST / 10;
-    t->fastest = FAST;
-    begin(t);
+    begin_with(t, true, false, 9 * FAST / 10, FAST);
+}
+
+void trip_over_hills(trip *t)
+{
+    begin_with(t, false, true, SLOW / 2, 3 * SLOW);
 }
 
 /* A pipe pressure that stays, sinks, falls fast or rises. */

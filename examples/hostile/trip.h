@@ -22,7 +22,7 @@ typedef struct {
     uint8_t sample[BUONGILACH_SAMPLE_BYTES];
     size_t profile_bytes, targets_bytes;
     uint32_t length, head, time, front, speed, slowest, fastest;
-    bool steepest;
+    bool steepest, rolling;
 } trip;
 
 /* Opens a session, and makes its first sample. No speed is above `fastest`, in hundredths of a mph. */
@@ -30,6 +30,9 @@ void trip_begin(trip *t, uint32_t fastest);
 
 /* The same for a train that runs away: the one that gains most speed, at 90 mph or more. */
 void trip_run_away(trip *t);
+
+/* The same for a train with weak brakes on ups and downs, before targets that allow its speed or more. */
+void trip_over_hills(trip *t);
 
 /* Offers the sample; accepted, the session and the sample are the next ones. */
 void trip_go(trip *t);

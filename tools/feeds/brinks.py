@@ -1,32 +1,18 @@
 """Targets, stops and reaches at the very brink."""
 
-import math
-
 from .records import REACH, Feed
 from .trains import SURE, draw_train, sample
-
-STEPS = 2048
-
-
-def coast_steps(train, speed):
-    """Steps of a coasting train on level, straight track, 2049 for more than
-    2048.  Only to find speeds that stop at the walk's very end."""
-    square, steps = speed * speed, 0
-    weight = train["weight"]
-    level = 600000 * weight + 20000000 * train["axles"]
-    while square > 0 and steps <= STEPS:
-        root = math.isqrt(square)
-        square -= 1449 * (level + 100 * weight * root + 7 * train["cars"] * square) // (605000 * weight)
-        steps += 1
-    return steps
+from .walks import Walk
 
 
 def fastest_coasting(train):
-    """The greatest speed that stops within the steps."""
+    """The greatest speed that stops within the steps, unbraked on level, straight track."""
+    unbraked, length = dict(train, rated=0), train["length"]
+    level = [(0, 0, 0, 0), (length + REACH, 0, 0, 0)]
     low, high = 1, 10000
     while low < high:
         middle = (low + high + 1) // 2
-        if coast_steps(train, middle) <= STEPS:
+        if Walk(unbraked, level, length, middle).stops():
             low = middle
         else:
             high = middle - 1

@@ -103,7 +103,7 @@ def command(words):
     if verb in ("help", "--help", "-h"):
         return write_text(__doc__)
     if verb == "kinds":
-        return write_text("".join("%-9s %s\n" % (name, " ".join(kind.__doc__.split()))
+        return write_text("".join("%-10s %s\n" % (name, " ".join(kind.__doc__.split()))
                                   for name, kind in KINDS.items()))
     if verb == "random":
         return random_command(words)

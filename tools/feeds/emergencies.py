@@ -61,7 +61,7 @@ def emergency(draw, number):
     """Boards run past: a slow train is suddenly at a board and fast, so that
     emergency is called, with the penalty or after it, by the target at each
     place and in each brake state; then it stands through all six states."""
-    place, state = number % PLACES + 1, (number + number // 24) % STATES
+    place, state = number % PLACES + 1, (number - number // 24) % STATES
     train = draw_quick(draw)
     feed = Feed(train)
     first = draw.below(3000)

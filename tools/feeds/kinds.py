@@ -9,17 +9,19 @@ from .grades import grades
 from .pipes import brakes
 from .runaways import runaway
 from .trips import light, trip
+from .undulations import undulating
 
 # Their order is part of what a seed means.
 KINDS = {"trip": trip, "brakes": brakes, "edges": edges, "light": light, "grades": grades,
-         "brink": brink, "damaged": damaged, "cut": cut, "runaway": runaway, "emergency": emergency}
+         "brink": brink, "damaged": damaged, "cut": cut, "runaway": runaway, "emergency": emergency,
+         "undulating": undulating}
 KIND_NAMES = tuple(KINDS)
 
 # Where no kind is named the seeds go round this list, so that any few hundred
 # seeds in a row hold each kind in its share.
-ROUND = ("trip", "brakes", "light", "edges", "trip", "damaged", "trip", "brakes", "grades",
-         "edges", "trip", "brink", "trip", "brakes", "cut", "edges", "trip", "light", "trip",
-         "brakes", "damaged", "edges", "grades", "trip", "brink", "runaway", "emergency")
+ROUND = ("trip", "brakes", "light", "edges", "trip", "damaged", "trip", "brakes", "grades", "undulating",
+         "edges", "trip", "brink", "trip", "brakes", "cut", "edges", "trip", "light", "undulating", "trip",
+         "brakes", "damaged", "edges", "grades", "trip", "brink", "runaway", "emergency", "undulating")
 
 
 def kind_of(seed):

@@ -16,6 +16,8 @@ use Rattle.decision.specs.Decision.{bothSize}
 use Rattle.track.specs.Track.{layOf}
 use Rattle.step.proofs.Gain.{gentle-no-steeper}
 use Rattle.walk.specs.Walk.{arrivalFor}
+use Rattle.laws.specs.Crossing.{crossingFor, Crossings}
+use Rattle.laws.proofs.Crossing.{crossings}
 use Rattle.laws.specs.Tested.{answered, testedFor, TestIdle}
 use Rattle.laws.proofs.Tested.{test-idle}
 use Rattle.judge.specs.Approach.{Approach, force, ground, arrivalOf}
@@ -65,7 +67,7 @@ module _ (x : Session) (s p t : List ℕ) where
     -- over the sample's track, whatever the force
     test-finds-nothing : (force : ℕ → ℕ) (u : ℕ) →
         testedFor (x .consist) force (ground made) (sampleIn s .head) (sampleIn s .speed) u
-        ≡ answered (arrivalFor (x .consist) force (ground made) (sampleIn s .head) (sampleIn s .speed) u)
+        ≡ answered (crossingFor (x .consist) force (ground made) (sampleIn s .head) (sampleIn s .speed) u)
     unfolding TestIdle
     test-finds-nothing force u =
         let m = sampleIn s in
@@ -73,13 +75,22 @@ module _ (x : Session) (s p t : List ℕ) where
         test-idle (x .consist) force (ground made) (m .head) (m .speed) u (w .limited) (gentle-no-steeper (layOf p) (x .consist .length) (w .track))
         (w .speed)
 
-    idle : (u : ℕ) → tested made u ≡ answered (arrivalOf made u)
-    unfolding arrivalOf
-    idle u = test-finds-nothing (force made) u
+    -- so it finds the stop
+    stop-found : (force : ℕ → ℕ) →
+        testedFor (x .consist) force (ground made) (sampleIn s .head) (sampleIn s .speed) 0
+        ≡ answered (arrivalFor (x .consist) force (ground made) (sampleIn s .head) (sampleIn s .speed) 0)
+    unfolding Crossings
+    stop-found force =
+        test-finds-nothing force 0
+        ∙ ap answered (sym (crossings (x .consist) force (ground made) (sampleIn s .head) (sampleIn s .speed) .stop-stands))
 
-    emergency-idle : testedEmergency (emergency x (sampleIn s) p) ≡ answered (emergencyArrival (emergency x (sampleIn s) p))
+    stop-tested : tested made 0 ≡ answered (arrivalOf made 0)
+    unfolding arrivalOf
+    stop-tested = stop-found (force made)
+
+    emergency-tested : testedEmergency (emergency x (sampleIn s) p) ≡ answered (emergencyArrival (emergency x (sampleIn s) p))
     unfolding emergencyArrival
-    emergency-idle = test-finds-nothing (emergencyForce (emergency x (sampleIn s) p)) 0
+    emergency-tested = stop-found (emergencyForce (emergency x (sampleIn s) p))
 
   module _ (out : List ℕ) where
     abbrev room : List Rule
@@ -94,7 +105,7 @@ module _ (x : Session) (s p t : List ℕ) where
     answers-by : (v : Verdict) → lowest (rulesBefore x s p t) ≡ v →
         firstBy v (firstLine ((isRefused (tested made 0), 11) ∷ (noRoom bothSize out, 12) ∷ [])) ≡ numberOfVerdict (lowest (rulesBefore x s p t ++ room))
     answers-by Accepted h =
-        rest-is (isRefused (tested made 0)) (noRoom bothSize out) (ap isRefused (idle h 0))
+        rest-is (isRefused (tested made 0)) (noRoom bothSize out) (ap isRefused (stop-tested h))
         ∙ ap numberOfVerdict (sym (append-passed (rulesBefore x s p t) room h))
     answers-by (Refused r) h = ap numberOfVerdict (sym (append-given (rulesBefore x s p t) room r tt h))
 
@@ -104,6 +115,7 @@ eleven x s p t out = record {
   answers =
       first-is (rulesBefore x s p t) _ tt
       ∙ answers-by x s p t out (lowest (rulesBefore x s p t)) refl;
-  arrivals = λ h u. idle x s p t (append-accepted (rulesBefore x s p t) _ h) u;
-  emergency-arrival = λ h. emergency-idle x s p t (append-accepted (rulesBefore x s p t) _ h);
+  stop = λ h. stop-tested x s p t (append-accepted (rulesBefore x s p t) _ h);
+  crossings = λ h. test-finds-nothing x s p t (append-accepted (rulesBefore x s p t) _ h) (force (made x s p t));
+  emergency-arrival = λ h. emergency-tested x s p t (append-accepted (rulesBefore x s p t) _ h);
 }

@@ -3,6 +3,7 @@ pub mod Told
 pub mod Calls
 pub mod ByRules
 pub mod Eleven
+pub mod Rise
 pub mod Demand1
 pub mod Carried
 pub mod Contracts

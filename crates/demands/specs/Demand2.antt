@@ -64,7 +64,7 @@ CauseStays = (e : Bool) (c : Consist) (h later : List Lent) → 0 < standsIn e c
 
 -- of any approach, so of that which each sample of a history makes
 module _ (x : Approach) where
-  -- "The location for a target speed is the head when q first is at or below that speed squared." For the stop the speed is 0.
+  -- document 02's R-2: "the first head from which, to the end of the walk, the speed stays at or below the target's". For the stop the speed is 0.
   abbrev pub literally : ℕ → Arrival
   literally u = walkZ (x .consist) (force x) (ground x) (u * u) 2048 (startZ (x .head) (x .speed))
 

@@ -10,6 +10,8 @@ use Rattle.refusal.specs.Lowest.{Rule}
 use Rattle.refusal.specs.Written.{noRoom}
 use Rattle.sample.specs.Sample.{rawIn, layoutRules}
 use Rattle.decision.specs.Decision.{bothSize}
+use Rattle.walk.specs.Walk.{Arrival}
+use Rattle.laws.specs.Crossing.{crossingFor}
 use Rattle.laws.specs.Tested.{Tested, refused, answered, testedFor}
 use Rattle.judge.specs.Approach.{Approach, force, ground, arrivalOf}
 use Rattle.judge.specs.Emergency.{Emergency, emergencyForce, emergencyArrival}
@@ -29,7 +31,10 @@ unfoldable pub firstLine : List Line → ℕ
 firstLine [] = 0
 firstLine (line ∷ lines) = cond (line .0) (line .1) (firstLine lines)
 
--- document 01's walk of an approach
+-- document 01's location for a target speed, and its walk with the test, of an approach
+abbrev pub crossingOf : Approach → ℕ → Arrival
+crossingOf x u = crossingFor (x .consist) (force x) (ground x) (x .head) (x .speed) u
+
 abbrev pub tested : Approach → ℕ → Tested
 tested x u = testedFor (x .consist) (force x) (ground x) (x .head) (x .speed) u
 
@@ -51,9 +56,12 @@ tableWithEleven x s p t out =
 pub record Eleven (x : Session) (s p t out : List ℕ) : Type 0 where
   -- its number is the call's
   pub answers : firstLine (tableWithEleven x s p t out) ≡ numberOfVerdict (sampleCall x s p t out .0 .verdict)
-  -- and for the stop and every target speed document 01's walk finds what a prediction of an accepted sample does
-  pub arrivals : sampleCall x s p t out .0 .verdict ≡ Accepted → (u : ℕ) →
-      tested (approach x (sampleIn s) p) u ≡ answered (arrivalOf (approach x (sampleIn s) p) u)
+  -- and of an accepted sample document 01's walk finds the stop that the prediction does
+  pub stop : sampleCall x s p t out .0 .verdict ≡ Accepted →
+      tested (approach x (sampleIn s) p) 0 ≡ answered (arrivalOf (approach x (sampleIn s) p) 0)
+  -- and for every target speed the location that it finds without the test
+  pub crossings : sampleCall x s p t out .0 .verdict ≡ Accepted → (u : ℕ) →
+      tested (approach x (sampleIn s) p) u ≡ answered (crossingOf (approach x (sampleIn s) p) u)
   -- and by emergency air too
   pub emergency-arrival : sampleCall x s p t out .0 .verdict ≡ Accepted →
       testedEmergency (emergency x (sampleIn s) p) ≡ answered (emergencyArrival (emergency x (sampleIn s) p))

@@ -1,6 +1,7 @@
 -- What is demanded: statements, and the definitions that they are made of. Each is the product's; none only serves proofs.
 pub mod Calls
 pub mod Eleven
+pub mod Rise
 pub mod Demand1
 pub mod Told
 pub mod Machine

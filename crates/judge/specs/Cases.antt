@@ -1,12 +1,12 @@
--- What the judgement comes to where there is no location, and where the train is no faster than the target. Statements; proofs/Cases.antt
+-- What the judgement comes to where there is no location, and where the train is nowhere faster than the target. Statements; proofs/Cases.antt
 -- proves them.
 use mathlib.Core.Path.{_≡_}
 use mathlib.Core.Bool.{true, false}
-use Prim.Native.Nat.{ℕ, _≤_}
+use Prim.Native.Nat.{ℕ, _*_, _≤_}
 use Rattle.record.specs.Location.{farthest}
 use Rattle.consist.specs.declared.Consist.{Consist}
-use Rattle.step.specs.Step.{Ground}
-use Rattle.walk.specs.Walk.{never, locationOf, arrivalFor}
+use Rattle.step.specs.Step.{stepsMost, Ground}
+use Rattle.walk.specs.Walk.{never, stays, start, arrivalFor, locationOf}
 use Rattle.judge.specs.Judge.{isJudged, offsetFor, isCalled, isEmergencyCalled}
 
 -- "Without one in 2,048 steps there is none, and it counts as beyond every target", of those whose location is "at most 4,000,000"
@@ -18,10 +18,10 @@ NoneIsBeyond =
 unfoldable pub NoOffset : Type 0
 NoOffset = (offset v u : ℕ) → v ≤ u → offsetFor offset v u ≡ 0
 
--- such a target's location is the head, and it never calls
-unfoldable pub NoFaster : Type 0
-NoFaster =
-    (c : Consist) (force : ℕ → ℕ) (ground : Ground) (offset head v target u : ℕ) → v ≤ u →
+-- the location for a target that the train is nowhere in its walk faster than is the head, and such a target never calls
+unfoldable pub NowhereFaster : Type 0
+NowhereFaster =
+    (c : Consist) (force : ℕ → ℕ) (ground : Ground) (offset head v target u : ℕ) → stays c force ground (u * u) stepsMost (start head v) ≡ true →
     isCalled offset head v target u (locationOf (arrivalFor c force ground head v u)) ≡ false
 
 -- no stop is past every target: an emergency that has none is called for each that is judged and has no speed

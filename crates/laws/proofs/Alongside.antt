@@ -16,7 +16,7 @@ use Rattle.laws.specs.Compare.{NotShort, Weaker, Alike, Heavy, NeverShor
 use Rattle.laws.proofs.Compare.{never-short}
 
 -- the order of arrivals is that of their numbers
-location-order : (x y : Arrival) → NotShort x y → NoFurther noStop y → locationOf y ≤ locationOf x
+pub location-order : (x y : Arrival) → NotShort x y → NoFurther noStop y → locationOf y ≤ locationOf x
 location-order never (at y) h w = w
 location-order never never h w = le-refl _
 location-order (at x) (at y) h w = h

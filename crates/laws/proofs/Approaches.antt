@@ -26,7 +26,7 @@ past-grows : (j : Bool) (t x y : ℕ) → x ≤ y → j && ltb t x ≡ true → 
 past-grows true t x y h e = lt-ltb t y (omega (arith, ltb-true t x e))
 past-grows false t x y h e = e
 
-called-grows : (o o′ head head′ v v′ t u x x′ : ℕ) → o ≤ o′ → head′ ≡ head → v ≤ v′ → x ≤ x′ →
+pub called-grows : (o o′ head head′ v v′ t u x x′ : ℕ) → o ≤ o′ → head′ ≡ head → v ≤ v′ → x ≤ x′ →
     isCalled o head v t u x ≡ true → isCalled o′ head′ v′ t u x′ ≡ true
 unfolding isCalled
 called-grows o o′ head head′ v v′ t u x x′ ho e hv hx c =

@@ -1,7 +1,8 @@
 -- A train that is no slower, under a brake force that is no greater, is never short of the other: while both walk, its q is no lower and its
--- clock no later. With q greater by e, the square root is greater by at most e, so q loses at most e more. Assumes nothing.
-use mathlib.Core.Path.{_≡_, refl, ap}
-use mathlib.Core.Bool.{Bool, true, false}
+-- clock no later, so that where it stays at or below a speed the other does. With q greater by e, the square root is greater by at most e, so q loses
+-- at most e more. Assumes nothing.
+use mathlib.Core.Path.{_≡_, refl, sym, ap, _∙_}
+use mathlib.Core.Bool.{Bool, true, false, true≢false}
 use Prim.Native.Nat.{ℕ, zero, suc, _+_, _*_, _-_, _≤_, _<_}
 use native.Mathlib.Nat.{le-refl, le-trans, mul-le-mul, mul-le-mul-left, mul-le-mul-right}
 use native.Mathlib.Omega.{arith}
@@ -16,9 +17,9 @@ use Rattle.whole.proofs.Roots.{root-mono, root-grows, root-pos}
 use Rattle.consist.specs.declared.Consist.{Consist}
 use Rattle.step.specs.declared.Run.{Run}
 use Rattle.step.specs.Step.{stepsMost, Ground, opposing, loss, stepTime, stepOf}
-use Rattle.walk.specs.Walk.{Arrival, at, never, arrivalBy, walkTo, arrivalFor}
+use Rattle.walk.specs.Walk.{Arrival, at, never, arrivalBy, stays, walkTo, arrivalFor}
 use Rattle.laws.specs.Compare.{NotShort, Weaker, Alike, Heavy, Ahead, StaysAhead, NeverShort}
-use Rattle.walk.proofs.Equations.{walk-at, walk-never, walk-on}
+use Rattle.walk.proofs.Equations.{stays-ended, stays-cut, stays-above, stays-on, walk-at, walk-cut, walk-on}
 use Rattle.laws.proofs.Forces.{div-le}
 
 -- ---- what q loses
@@ -85,39 +86,69 @@ stays-ahead c d f g ground r s heavy alike weaker ahead some =
 
 -- ---- the walk
 
+-- q is 0, where the walk has ended, or above it
+pub ended-or-on : {P : Type 0} (q : ℕ) → (q ≡ 0 → P) → (0 < q → P) → P
+ended-or-on {P} q ended on = by (leb q 0) refl
+  where
+    by : (b : Bool) → leb q 0 ≡ b → P
+    by true e = ended (omega (arith, leb-true q 0 e))
+    by false e = on (leb-false q 0 e)
+
 -- no walk arrives short of its start
 verdict-from : (h m : ℕ) (b : Bool) (rest : Arrival) → h ≤ m → NotShort rest (at h) → NotShort (arrivalBy b m rest) (at h)
 verdict-from h m true rest l r = l
 verdict-from h m false rest l r = r
 
-walk-from : (c : Consist) (f : ℕ → ℕ) (ground : Ground) (limit n : ℕ) (r : Run) (h : ℕ) → h ≤ r .head →
+pub walk-from : (c : Consist) (f : ℕ → ℕ) (ground : Ground) (limit n : ℕ) (r : Run) (h : ℕ) → h ≤ r .head →
     NotShort (walkTo c f ground limit n r) (at h)
 unfolding walkTo stepOf
-walk-from c f ground limit zero r h l = verdict-from h (r .head) (leb (r .q) limit) never l tt
+walk-from c f ground limit zero r h l = verdict-from h (r .head) (stays c f ground limit zero r) never l tt
 walk-from c f ground limit (suc n) r h l =
-    verdict-from h (r .head) (leb (r .q) limit) _ l (walk-from c f ground limit n (stepOf c f ground r) h (omega arith))
+    verdict-from h (r .head) (stays c f ground limit (suc n) r) _ l (walk-from c f ground limit n (stepOf c f ground r) h (omega arith))
 
-module _ (c d : Consist) (f g : ℕ → ℕ) (ground : Ground) (limit : ℕ) where
+module _ (c d : Consist) (f g : ℕ → ℕ) (ground : Ground) (limit : ℕ) (heavy : Heavy c) (alike : Alike c d) (weaker : Weaker f g) where
+  next : (r s : Run) → Ahead r s → 0 < s .q → Ahead (stepOf c f ground r) (stepOf d g ground s)
+  unfolding StaysAhead
+  next r s ahead some = stays-ahead c d f g ground r s heavy alike weaker ahead some
+
+  -- if the first stays at or below the limit, so does the second
+  both-stay : (n : ℕ) (r s : Run) → Ahead r s → stays c f ground limit n r ≡ true → stays d g ground limit n s ≡ true
+  both-stay zero r s ahead e =
+      ended-or-on (s .q) (stays-ended d g ground limit s zero) (λ some. absurd (true≢false (sym e ∙ stays-cut c f ground limit r (omega arith))))
+  both-stay (suc n) r s ahead e =
+      ended-or-on (s .q) (stays-ended d g ground limit s (suc n))
+      (λ some. by some (both-stay n (stepOf c f ground r) (stepOf d g ground s) (next r s ahead some)) (leb (r .q) limit) refl)
+    where
+      by : 0 < s .q → (stays c f ground limit n (stepOf c f ground r) ≡ true → stays d g ground limit n (stepOf d g ground s) ≡ true) →
+          (b : Bool) → leb (r .q) limit ≡ b → stays d g ground limit (suc n) s ≡ true
+      by some after true h =
+          let l : r .q ≤ limit = leb-true _ _ h in
+          stays-on d g ground limit s n some (omega arith) ∙ after (sym (stays-on c f ground limit r n (omega arith) l) ∙ e)
+      by some after false h = absurd (true≢false (sym e ∙ stays-above c f ground limit r (suc n) (leb-false _ _ h)))
+
   abbrev InOrder : ℕ → Run → Run → Type 0
   InOrder n r s = NotShort (walkTo c f ground limit n r) (walkTo d g ground limit n s)
 
-  -- at one step, given the order where both go on
-  at-arrival : (n : ℕ) (r s : Run) → Ahead r s → (limit < s .q → limit < r .q → InOrder n r s) → InOrder n r s
-  at-arrival n r s ahead on = by (leb (s .q) limit) refl
+  -- at one step, given the order where neither stays
+  at-arrival : (n : ℕ) (r s : Run) → Ahead r s
+      → (stays c f ground limit n r ≡ false → stays d g ground limit n s ≡ false → InOrder n r s) → InOrder n r s
+  at-arrival n r s ahead on = by (stays d g ground limit n s) (stays c f ground limit n r) refl refl
     where
-      by : (t : Bool) → leb (s .q) limit ≡ t → InOrder n r s
-      by true e = rw (walk-at d g ground limit s n (leb-true _ _ e)) (walk-from c f ground limit n r (s .head) (omega arith))
-      by false e = let b = leb-false _ _ e in on b (omega arith)
+      by : (b a : Bool) → stays d g ground limit n s ≡ b → stays c f ground limit n r ≡ a → InOrder n r s
+      by true a e k = rw (walk-at d g ground limit s n e) (walk-from c f ground limit n r (s .head) (omega arith))
+      by false true e k = absurd (true≢false (sym (both-stay n r s ahead k) ∙ e))
+      by false false e k = on k e
 
-  in-order : Heavy c → Alike c d → Weaker f g → (n : ℕ) (r s : Run) → Ahead r s → InOrder n r s
-  unfolding StaysAhead
-  in-order heavy alike weaker zero r s ahead =
-      at-arrival zero r s ahead (λ b a. rw (walk-never c f ground limit r a) tt)
-  in-order heavy alike weaker (suc n) r s ahead =
-      let ih = in-order heavy alike weaker n (stepOf c f ground r) (stepOf d g ground s) in
-      let next : (0 < s .q) → Ahead (stepOf c f ground r) (stepOf d g ground s) = stays-ahead c d f g ground r s heavy alike weaker ahead in
+  -- a run that does not stay has not ended
+  not-ended : (n : ℕ) (s : Run) → stays d g ground limit n s ≡ false → 0 < s .q
+  not-ended n s e = ended-or-on (s .q) (λ z. absurd (true≢false (sym (stays-ended d g ground limit s n z) ∙ e))) (λ some. some)
+
+  in-order : (n : ℕ) (r s : Run) → Ahead r s → InOrder n r s
+  in-order zero r s ahead =
+      at-arrival zero r s ahead (λ k e. let some = not-ended zero s e in rw (walk-cut c f ground limit r (omega (arith, ahead .q, some))) tt)
+  in-order (suc n) r s ahead =
       at-arrival (suc n) r s ahead
-      (λ b a. rw (walk-on c f ground limit r n a, walk-on d g ground limit s n b) (ih (next (omega arith))))
+      (λ k e. rw (walk-on c f ground limit r n k, walk-on d g ground limit s n e) (in-order n _ _ (next r s ahead (not-ended (suc n) s e))))
 
 pub never-short : NeverShort
 unfolding NeverShort arrivalFor

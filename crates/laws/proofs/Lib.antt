@@ -11,6 +11,7 @@ pub mod Offsets
 pub mod Alongside
 pub mod Approaches
 pub mod Emergency
+pub mod Crossing
 pub mod ProfileFigures
 pub mod SampleFigures
 pub mod BrakeFigures

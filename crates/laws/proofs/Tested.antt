@@ -12,8 +12,9 @@ use Rattle.consist.specs.declared.Consist.{Consist}
 use Rattle.step.specs.Step.{stepsMost, Ground, stepOf}
 use Rattle.step.specs.Gain.{gainMost, Limited, NoSteeper}
 use Rattle.step.proofs.Gain.{gains}
-use Rattle.walk.specs.Walk.{Arrival, at, arrivalBy, walkTo, arrivalFor}
+use Rattle.walk.specs.Walk.{Arrival, at, arrivalBy}
 use Rattle.laws.specs.Literal.{stepZ}
+use Rattle.laws.specs.Crossing.{crossingTo, crossingFor}
 use Rattle.laws.specs.Tested.{bound, Tested, answered, walkTested, TestIdle}
 
 -- slow enough, or what the rest answers
@@ -24,8 +25,8 @@ either false h rest a e = e
 module _ (c : Consist) (force : ℕ → ℕ) (ground : Ground) (limited : Limited c) (steep : NoSteeper ground) (limit : ℕ) where
   idle : (n head clock : ℕ) (q : ℤ) → cut q + gainMost * n ≤ bound →
       walkTested c force ground limit n (record { head = head; clock = clock; q = q })
-      ≡ answered (walkTo c force ground limit n (record { head = head; clock = clock; q = cut q }))
-  unfolding walkTested walkTo stepZ stepOf
+      ≡ answered (crossingTo c force ground limit n (record { head = head; clock = clock; q = cut q }))
+  unfolding walkTested crossingTo stepZ stepOf
   idle zero head clock (pos a) h = rw (le-ltb bound a (omega arith)) (either (leb a limit) head _ _ refl)
   idle zero head clock (negsuc a) h = rw (le-leb 0 limit (omega arith)) refl
   idle (suc n) head clock (pos a) h =
@@ -34,5 +35,5 @@ module _ (c : Consist) (force : ℕ → ℕ) (ground : Ground) (limited : Limite
   idle (suc n) head clock (negsuc a) h = rw (le-leb 0 limit (omega arith)) refl
 
 pub test-idle : TestIdle
-unfolding TestIdle arrivalFor
+unfolding TestIdle crossingFor
 test-idle c force ground head v u limited steep h = idle c force ground limited steep (u * u) stepsMost head 0 (pos (v * v)) (omega (arith, mul-le-mul h h))

@@ -5,8 +5,9 @@ pub mod SampleTrip
 pub mod HeldTrip
 -- what damage to a session's record is seen
 pub mod HeldDamage
--- document 01's walk to the letter, and with its test for 11
+-- the walk as the papers word it; document 01's location for a target speed; document 01's walk with its test for 11
 pub mod Literal
+pub mod Crossing
 pub mod Tested
 -- the comparison behind demand 3
 pub mod Compare

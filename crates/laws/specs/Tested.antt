@@ -1,5 +1,5 @@
 -- Document 01's walk with its test for 11, to the letter. Document 02 (R-10): "Prove that, then take 11 and its test out. .. all other answers stand."
--- `TestIdle` says that within 01's limits this walk is never refused and answers what the walk of `walk` does; proofs/Tested.antt proves it.
+-- `TestIdle` says that within 01's limits this walk is never refused and answers what 01's walk without it does; proofs/Tested.antt proves it.
 use mathlib.Core.Path.{_≡_}
 use mathlib.Core.Bool.{Bool, cond}
 use Prim.Native.Nat.{ℕ, zero, suc, _*_, _≤_}
@@ -8,8 +8,9 @@ use lib.Signed.{leZ, ltZ}
 use Rattle.consist.specs.declared.Consist.{Consist}
 use Rattle.step.specs.Step.{stepsMost, Ground}
 use Rattle.step.specs.Gain.{Limited, NoSteeper, speedMost}
-use Rattle.walk.specs.Walk.{Arrival, at, never, arrivalFor}
+use Rattle.walk.specs.Walk.{Arrival, at, never}
 use Rattle.laws.specs.Literal.{RunZ, stepZ, startZ}
+use Rattle.laws.specs.Crossing.{crossingFor}
 
 -- 11: "the walk's squared speed exceeds 1,000,000,000"
 abbrev pub bound : ℕ
@@ -38,4 +39,4 @@ testedFor c force ground head v u = walkTested c force ground (u * u) stepsMost 
 unfoldable pub TestIdle : Type 0
 TestIdle =
     (c : Consist) (force : ℕ → ℕ) (ground : Ground) (head v u : ℕ) → Limited c → NoSteeper ground → v ≤ speedMost →
-    testedFor c force ground head v u ≡ answered (arrivalFor c force ground head v u)
+    testedFor c force ground head v u ≡ answered (crossingFor c force ground head v u)

@@ -1,15 +1,14 @@
 -- One pass for the stop and for eight target speeds: what it keeps true from step to step, and what it answers as it ends.
 -- Assumes nothing.
 use mathlib.Core.Path.{_≡_, refl, sym, ap, ap₂, _∙_}
-use mathlib.Core.Bool.{Bool, true, false, cond, _&&_}
+use mathlib.Core.Bool.{Bool, true, false, cond, _||_}
 use mathlib.Core.List.{List, [], _∷_, map}
-use mathlib.Core.Logic.{_⊎_, inl, inr, ⊎-elim}
 use Prim.Native.Nat.{ℕ, suc, _+_, _*_, _-_, _≤_, _<_}
 use native.Mathlib.Nat.{zero-lt-suc}
 use native.Mathlib.Omega.{arith}
 use lib.Dec.{leb, eqb}
 use lib.ListN.{length, getD, replicate, getD-replicate}
-use borrow.Author.Tests.{eqb-true, eq-eqb, ne-eqb, leb-true, leb-false, lt-leb}
+use borrow.Author.Tests.{eqb-true, eqb-false, ne-eqb, le-leb, leb-true, leb-false, lt-leb}
 use Rattle.whole.specs.Root.{rootOf}
 use Rattle.whole.proofs.Roots.{root-pos}
 use Rattle.record.specs.Location.{farthest, noStop}
@@ -17,57 +16,87 @@ use Rattle.consist.specs.declared.Consist.{Consist}
 use Rattle.targets.specs.Targets.{most}
 use Rattle.step.specs.declared.Run.{Run}
 use Rattle.step.specs.Step.{stepsMost, Ground, stepOf}
-use Rattle.walk.specs.Walk.{Arrival, at, never, walkTo, start, arrivalFor, locationOf, predictOf}
+use Rattle.walk.specs.declared.Band.{Band}
+use Rattle.walk.specs.Walk.{Arrival, at, never, stays, walkTo, start, arrivalFor, locationOf, predictOf}
 use Rattle.step.specs.Range.{timeMost}
 use Rattle.step.specs.Gain.{gainMost}
-use Rattle.walk.specs.Marks.{markOf, Marked, Open, predictionWith}
-use Rattle.walk.proofs.Equations.{walk-at, walk-never, walk-on}
+use Rattle.walk.specs.Marks.{closedAt, markOf, Marked, Kept, Quiet, predictionWith, endedWith}
+use Rattle.walk.proofs.Equations.{stays-ended, stays-cut, stays-above, stays-on, walk-at, walk-cut, walk-on}
 use Rattle.step.proofs.Bounds.{time-most}
 
 -- ---- one target speed u, whose location is l
 
--- where a walk of n more steps from r first is slow enough
+-- where a walk of n more steps from r arrives
 abbrev pub toCome : Consist → (ℕ → ℕ) → Ground → ℕ → ℕ → Run → ℕ
 toCome c force ground u n r = locationOf (walkTo c force ground (u * u) n r)
 
--- l is what is found at the arrival already, or what is to come
+-- l is what is closed already, or here, where the walk stays at or below the speed; else it is to come
 pub record Sought (c : Consist) (force : ℕ → ℕ) (ground : Ground) (u l n : ℕ) (r : Run) (arrival : ℕ) : Type 0 where
-  pub is : l ≡ cond (eqb arrival noStop) (toCome c force ground u n r) arrival
+  pub is : l ≡ cond (stays c force ground (u * u) n r) (closedAt r arrival) (toCome c force ground u n r)
 
--- the arrival holds it; or it is open, and the run is above the speed
-abbrev FoundOrLater : ℕ → ℕ → ℕ → ℕ → ℕ → Type 0
-FoundOrLater u l q arrival later = ((eqb arrival noStop ≡ false) × (arrival ≡ l)) ⊎ ((arrival ≡ noStop) × (u * u < q) × (l ≡ later))
+-- an arrival that is open is to come, whether the walk stays or not
+open-comes : (c : Consist) (force : ℕ → ℕ) (ground : Ground) (u n : ℕ) (r : Run)
+    → toCome c force ground u n r ≡ cond (stays c force ground (u * u) n r) (r .head) (toCome c force ground u n r)
+open-comes c force ground u n r = by (stays c force ground (u * u) n r) refl
+  where
+    by : (b : Bool) → stays c force ground (u * u) n r ≡ b → toCome c force ground u n r ≡ cond b (r .head) (toCome c force ground u n r)
+    by true e = ap locationOf (walk-at c force ground (u * u) r n e)
+    by false e = refl
+
+-- an arrival that is closed is not open
+is-closed : (r : Run) (arrival : ℕ) → r .head < noStop → eqb (closedAt r arrival) noStop ≡ false
+is-closed r arrival near = by (eqb arrival noStop) refl
+  where
+    by : (b : Bool) → eqb arrival noStop ≡ b → eqb (cond b (r .head) arrival) noStop ≡ false
+    by true e = ne-eqb (r .head) noStop (λ z. omega arith)
+    by false e = e
 
 module _ {c : Consist} {force : ℕ → ℕ} {ground : Ground} {u l n : ℕ} {r : Run} {arrival : ℕ} (sought : Sought c force ground u l n r arrival) where
-  module _ (near : r .head < noStop) where
-    found-or-later : FoundOrLater u l (r .q) (markOf r u arrival) (toCome c force ground u n r)
-    unfolding markOf
-    found-or-later = go (eqb arrival noStop) (leb (r .q) (u * u)) refl refl (sought .is)
+  if-stays : (b : Bool) → stays c force ground (u * u) n r ≡ b → l ≡ cond b (closedAt r arrival) (toCome c force ground u n r)
+  if-stays b e = sought .is ∙ ap (λ (x : Bool). cond x (closedAt r arrival) (toCome c force ground u n r)) e
+
+  found-stop : r .q ≡ 0 → markOf r u arrival ≡ l
+  unfolding markOf
+  found-stop h = rw (le-leb (r .q) (u * u) (omega arith)) (sym (if-stays true (stays-ended c force ground (u * u) r n h)))
+
+  none-cut : n ≡ 0 → 0 < r .q → l ≡ noStop
+  none-cut z h =
+      if-stays false (ap (λ (k : ℕ). stays c force ground (u * u) k r) z ∙ stays-cut c force ground (u * u) r h)
+      ∙ ap (λ (k : ℕ). toCome c force ground u k r) z
+      ∙ ap locationOf (walk-cut c force ground (u * u) r h)
+
+  module _ (near : r .head < noStop) (moves : 0 < r .q) (k : ℕ) (e : n ≡ suc k) where
+    abbrev next : Run
+    next = stepOf c force ground r
+
+    -- the walk does not stay from here on: the location is to come after the step
+    later : stays c force ground (u * u) (suc k) r ≡ false → l ≡ toCome c force ground u k next
+    later s =
+        if-stays false (ap (λ (j : ℕ). stays c force ground (u * u) j r) e ∙ s)
+        ∙ ap (λ (j : ℕ). toCome c force ground u j r) e
+        ∙ ap locationOf (walk-on c force ground (u * u) r k s)
+
+    above : u * u < r .q → l ≡ cond (stays c force ground (u * u) k next) (next .head) (toCome c force ground u k next)
+    above h = later (stays-above c force ground (u * u) r (suc k) h) ∙ open-comes c force ground u k next
+
+    below : r .q ≤ u * u → l ≡ cond (stays c force ground (u * u) k next) (closedAt r arrival) (toCome c force ground u k next)
+    below h = by (stays c force ground (u * u) k next) refl
       where
-        go : (a b : Bool) → eqb arrival noStop ≡ a → leb (r .q) (u * u) ≡ b → l ≡ cond a (toCome c force ground u n r) arrival
-            → FoundOrLater u l (r .q) (cond (a && b) (r .head) arrival) (toCome c force ground u n r)
-        go true true e f k =
-            inl (ne-eqb (r .head) noStop (λ z. omega arith), sym (k ∙ ap locationOf (walk-at c force ground (u * u) r n (leb-true _ _ f))))
-        go true false e f k = inr (eqb-true arrival noStop e, leb-false _ _ f, k)
-        go false b e f k = inl (e, sym k)
+        on : stays c force ground (u * u) (suc k) r ≡ stays c force ground (u * u) k next
+        on = stays-on c force ground (u * u) r k moves h
 
-    found-stop : r .q ≡ 0 → markOf r u arrival ≡ l
-    found-stop h = ⊎-elim (λ f. f .1) (λ f. absurd (omega (arith, f .1))) found-or-later
+        by : (b : Bool) → stays c force ground (u * u) k next ≡ b → l ≡ cond b (closedAt r arrival) (toCome c force ground u k next)
+        by true f = if-stays true (ap (λ (j : ℕ). stays c force ground (u * u) j r) e ∙ on ∙ f)
+        by false f = later (on ∙ f)
 
-    found-last : n ≡ 0 → markOf r u arrival ≡ l
-    found-last h =
-        ⊎-elim (λ f. f .1)
-        (λ f. f .0 ∙ sym (f .2 ∙ ap (λ (k : ℕ). toCome c force ground u k r) h ∙ ap locationOf (walk-never c force ground (u * u) r (f .1))))
-        found-or-later
-
-    sought-on : (k : ℕ) → n ≡ suc k → Sought c force ground u l k (stepOf c force ground r) (markOf r u arrival)
-    sought-on k h =
-        record {
-          is = ⊎-elim (λ f. rw (f .0) (sym (f .1)))
-              (λ f. rw (eq-eqb (markOf r u arrival) noStop (f .0))
-              (f .2 ∙ ap (λ (j : ℕ). toCome c force ground u j r) h ∙ ap locationOf (walk-on c force ground (u * u) r k (f .1))))
-              found-or-later;
-        }
+    sought-on : Sought c force ground u l k next (markOf r u arrival)
+    unfolding markOf
+    sought-on = record { is = by (leb (r .q) (u * u)) refl }
+      where
+        by : (b : Bool) → leb (r .q) (u * u) ≡ b
+            → l ≡ cond (stays c force ground (u * u) k next) (closedAt next (cond b (closedAt r arrival) noStop)) (toCome c force ground u k next)
+        by true f = rw (is-closed r arrival near) (below (leb-true _ _ f))
+        by false f = above (leb-false _ _ f)
 
 -- ---- all of them, and the stop
 
@@ -93,20 +122,26 @@ walk-begins c force ground head v speeds =
       square-most = omega arith;
       size = refl;
       stop = refl;
-      each = λ i h. record { is = rw (getD-replicate most i noStop 0 h) };
+      each = λ i h. record { is = rw (getD-replicate most i noStop 0 h) (open-comes c force ground (getD speeds i 0) stepsMost (start head v)) };
     }
 
--- above every square that is open, nothing is marked
-pub unmarked : (r : Run) (speeds arrivals : List ℕ) (next : ℕ) → length arrivals ≡ most → Open speeds arrivals next → next < r .q → Marked r speeds arrivals arrivals
+-- inside the band nothing changes
+pub unmarked : (r : Run) (speeds arrivals : List ℕ) (b : Band) → length arrivals ≡ most → Quiet speeds arrivals b → b .low < r .q → r .q ≤ b .high
+    → Marked r speeds arrivals arrivals
 unfolding markOf
-unmarked r speeds arrivals next size opened h = record { size = size; each = λ i k. go (getD arrivals i 0) (getD speeds i 0) (opened .below i k) }
+unmarked r speeds arrivals b size quiet low high =
+    record { size = size; each = λ i k. go (getD arrivals i 0) (getD speeds i 0) (quiet .each i k) }
   where
-    go : (p u : ℕ) → (p ≡ noStop → u * u ≤ next) → p ≡ markOf r u p
-    go p u l = by (eqb p noStop) refl
+    go : (p u : ℕ) → Kept b (u * u) p → p ≡ markOf r u p
+    go p u kept = by (eqb p noStop) refl
       where
-        by : (b : Bool) → eqb p noStop ≡ b → p ≡ cond (b && leb (r .q) (u * u)) (r .head) p
-        by true e = let f = l (eqb-true p noStop e) in rw (lt-leb (r .q) (u * u) (omega arith))
-        by false e = refl
+        by : (o : Bool) → eqb p noStop ≡ o → p ≡ cond (leb (r .q) (u * u)) (cond o (r .head) p) noStop
+        by true e =
+            let f = eqb-true p noStop e in
+            rw (lt-leb (r .q) (u * u) (omega (arith, kept .opened f))) f
+        by false e =
+            let f = kept .closed (eqb-false p noStop e) in
+            rw (le-leb (r .q) (u * u) (omega arith))
 
 mapped : (f : ℕ → ℕ) (us ps : List ℕ) → length ps ≡ length us → ((i : ℕ) → i < length us → getD ps i 0 ≡ f (getD us i 0)) → ps ≡ map f us
 mapped f [] [] e h = refl
@@ -131,17 +166,27 @@ module _ {c : Consist} {force : ℕ → ℕ} {ground : Ground} {head v : ℕ} {s
     near-stop : r .head < noStop
     near-stop = omega arith
 
-    pub answer-stop : r .q ≡ 0 → Answers (at (r .head)) now
+    answer-stop : r .q ≡ 0 → Answers (at (r .head)) now
     answer-stop h =
-        answer (at (r .head)) now (marked .size) (w .stop ∙ walk-at c force ground 0 r (stepsMost - n) (omega arith))
-        (λ i k. marked .each i k ∙ found-stop (w .each i k) near-stop h)
+        answer (at (r .head)) now (marked .size)
+        (w .stop ∙ walk-at c force ground 0 r (stepsMost - n) (stays-ended c force ground 0 r (stepsMost - n) h))
+        (λ i k. marked .each i k ∙ found-stop (w .each i k) h)
 
-    pub answer-never : 0 < r .q → n ≡ stepsMost → Answers never now
+    answer-never : 0 < r .q → n ≡ stepsMost → Answers never (replicate most noStop)
     answer-never h e =
         let z : stepsMost - n ≡ 0 = omega arith in
-        answer never now (marked .size)
-        (w .stop ∙ ap (λ (k : ℕ). walkTo c force ground 0 k r) z ∙ walk-never c force ground 0 r h)
-        (λ i k. marked .each i k ∙ found-last (w .each i k) near-stop z)
+        answer never (replicate most noStop) refl
+        (w .stop ∙ ap (λ (k : ℕ). walkTo c force ground 0 k r) z ∙ walk-cut c force ground 0 r h)
+        (λ i k. getD-replicate most i noStop 0 k ∙ sym (none-cut (w .each i k) z h))
+
+    -- as the walk ends, by q or by the last step
+    pub answer-ended : (eqb (r .q) 0 || eqb n stepsMost) ≡ true → endedWith r now ≡ predictOf c force ground head v speeds
+    answer-ended h = by (eqb (r .q) 0) refl h
+      where
+        by : (b : Bool) → eqb (r .q) 0 ≡ b → (b || eqb n stepsMost) ≡ true
+            → cond b (predictionWith (r .head) now) (predictionWith noStop (replicate most noStop)) ≡ predictOf c force ground head v speeds
+        by true e l = answer-stop (eqb-true (r .q) 0 e)
+        by false e l = let some = eqb-false (r .q) 0 e in answer-never (omega (arith, some)) (eqb-true n stepsMost l)
 
     pub walks-on : 0 < r .q → n < stepsMost → stepOf c force ground r .q ≤ r .q + gainMost
         → Walked c force ground head v speeds (n + 1) (stepOf c force ground r) now
@@ -154,6 +199,9 @@ module _ {c : Consist} {force : ℕ → ℕ} {ground : Ground} {head v : ℕ} {s
           clock-most = omega (arith, time-most (rootOf (r .q)) (root-pos (r .q) h));
           square-most = omega (arith, w .square-most, gained);
           size = marked .size;
-          stop = w .stop ∙ ap (λ (k : ℕ). walkTo c force ground 0 k r) e ∙ walk-on c force ground 0 r (stepsMost - (n + 1)) h;
-          each = λ i k. rw (marked .each i k) (sought-on (w .each i k) near-stop (stepsMost - (n + 1)) e);
+          stop =
+              w .stop
+              ∙ ap (λ (k : ℕ). walkTo c force ground 0 k r) e
+              ∙ walk-on c force ground 0 r (stepsMost - (n + 1)) (stays-above c force ground 0 r (suc (stepsMost - (n + 1))) h);
+          each = λ i k. rw (marked .each i k) (sought-on (w .each i k) near-stop h (stepsMost - (n + 1)) e);
         }

@@ -6,14 +6,15 @@ use step::Curve;
 use step::Run;
 use targets::Target;
 ghost use mathlib.Core.Path.{_≡_};
-ghost use Prim.Native.Nat.{_*_, _≤_};
-ghost use Rattle.record.specs.Location.{noStop};
+ghost use mathlib.Core.Bool.{_&&_};
+ghost use Prim.Native.Nat.{_*_};
+ghost use lib.Dec.{leb, ltb};
 ghost use Rattle.track.specs.Steps.{trackOf};
 ghost use Rattle.step.specs.Curve.{forceAt};
 ghost use Rattle.step.specs.Step.{groundOf};
 ghost use Rattle.walk.specs.Walk.{start, predictOf};
 ghost use Rattle.walk.specs.Range.{Walkable};
-ghost use Rattle.walk.specs.Marks.{markOf, Marked, Open, predictionWith};
+ghost use Rattle.walk.specs.Marks.{markOf, Marked, Kept, Inside, Quiet, endedWith};
 
 // The most steps of a walk.
 const STEPS_MOST: u32 = 2_048;
@@ -27,6 +28,12 @@ pub struct Prediction {
     pub arrivals: [u32; Target::MOST],
 }
 
+// While q is above `low` and not above `high`, no arrival changes.
+struct Band {
+    low: u64,
+    high: u64,
+}
+
 fn square(speed: u16) -> u64
     ensures { λ r. ⌜ r ≡ speed * speed ⌝ }
 {
@@ -34,15 +41,17 @@ fn square(speed: u16) -> u64
     u * u
 }
 
-// The arrival of a target speed as the run comes by.
+// The arrival of a target speed as the run comes by: open until the run is slow enough, and again where it speeds up.
 fn mark(arrival: u32, speed: u16, run: Run) -> u32
     ensures { λ r. ⌜ r ≡ markOf run speed arrival ⌝ }
 {
-    if (arrival == record::NO_STOP) & (run.q <= square(speed)) {
-        run.head
-    } else {
-        arrival
+    if run.q > square(speed) {
+        return record::NO_STOP;
     }
+    if arrival == record::NO_STOP {
+        return run.head;
+    }
+    arrival
 }
 
 fn marked(
@@ -61,33 +70,59 @@ fn marked(
     arrivals
 }
 
-// The greater of `most` and the speed's square, if its arrival is open.
-fn raised(most: u64, arrival: u32, speed: u16) -> u64
-    ensures { λ r. ⌜ (most ≤ r) × (arrival ≡ noStop → speed * speed ≤ r) ⌝ }
+// The band in which this arrival stays as it is, too.
+fn narrowed(band: Band, arrival: u32, speed: u16) -> Band
+    ensures { λ r. ⌜ Inside r band × Kept r (speed * speed) arrival ⌝ }
 {
-    if arrival != record::NO_STOP {
-        return most;
+    if arrival == record::NO_STOP {
+        return Band {
+            low: whole::greater(band.low, square(speed)),
+            high: band.high,
+        };
     }
-    whole::greater(most, square(speed))
+    Band {
+        low: band.low,
+        high: whole::lesser(band.high, square(speed)),
+    }
 }
 
-// The q at which the next arrival is to be marked.
-fn next_mark(arrivals: [u32; Target::MOST], speeds: [u16; Target::MOST]) -> u64
-    ensures { λ r. ⌜ Open speeds arrivals r ⌝ }
+// Between the greatest square of an open arrival and the least of a closed one.
+fn quiet_band(arrivals: [u32; Target::MOST], speeds: [u16; Target::MOST]) -> Band
+    ensures { λ r. ⌜ Quiet speeds arrivals r ⌝ }
 {
-    let mut most: u64 = 0;
+    let mut band = Band {
+        low: 0,
+        high: 0xffff_ffff_ffff_ffff,
+    };
     let mut i: usize = 0;
     while i < Target::MOST {
-        most = raised(most, arrivals[i], speeds[i]);
+        band = narrowed(band, arrivals[i], speeds[i]);
         i += 1;
     }
-    most
+    band
 }
 
-fn predicted(stop: u32, arrivals: [u32; Target::MOST]) -> Prediction
-    ensures { λ r. ⌜ r ≡ predictionWith stop arrivals ⌝ }
+fn lies_in(band: Band, q: u64) -> bool
+    ensures { λ r. ⌜ r ≡ (ltb (band .low) q && leb q (band .high)) ⌝ }
 {
-    Prediction { stop, arrivals }
+    (band.low < q) & (q <= band.high)
+}
+
+// A walk that is cut, with q above 0, has no location.
+fn ended(run: Run, arrivals: [u32; Target::MOST]) -> Prediction
+    ensures { λ r. ⌜ r ≡ endedWith run arrivals ⌝ }
+{
+    if run.q == 0 {
+        return Prediction {
+            stop: run.head,
+            arrivals,
+        };
+    }
+    let none = [record::NO_STOP; Target::MOST];
+    Prediction {
+        stop: record::NO_STOP,
+        arrivals: none,
+    }
 }
 
 fn started(head: u32, speed: u16) -> Run
@@ -100,7 +135,7 @@ fn started(head: u32, speed: u16) -> Run
     }
 }
 
-// Where the train stops, and where it is at or below each speed, from `head` on at `speed`, in one pass.
+// Where the train stops, and from where on it stays at or below each speed, from `head` on at `speed`, in one pass.
 // The track is given by its fields, so that its arrays are lent and not copied.
 pub fn predict<'a>(
     c: Consist,
@@ -119,19 +154,16 @@ pub fn predict<'a>(
     let length = c.length as u32;
     let mut run = started(head, speed);
     let mut arrivals = [record::NO_STOP; Target::MOST];
-    let mut next = next_mark(arrivals, speeds);
+    let mut band = quiet_band(arrivals, speeds);
     let mut n: u32 = 0;
     loop {
-        if run.q <= next {
+        if !lies_in(band, run.q) {
             let now = marked(arrivals, speeds, run);
             arrivals = now;
-            next = next_mark(arrivals, speeds);
+            band = quiet_band(arrivals, speeds);
         }
-        if run.q == 0 {
-            return predicted(run.head, arrivals);
-        }
-        if n == STEPS_MOST {
-            return predicted(record::NO_STOP, arrivals);
+        if (run.q == 0) | (n == STEPS_MOST) {
+            return ended(run, arrivals);
         }
         let u = track::under_train(count, starts, grades, curvatures, run.head, length);
         run = run.stepped(c, curve, u);

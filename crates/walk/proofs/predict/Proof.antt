@@ -1,11 +1,14 @@
 -- `walk::predict` meets its contract: after each step, what is found at an arrival or the rest of the walk is what the whole walk finds.
 -- Assumes nothing.
-use mathlib.Core.Path.{_≡_, ap, _∙_}
+use mathlib.Core.Path.{_≡_, refl, sym, ap, _∙_}
+use mathlib.Core.Bool.{Bool, true, false, _&&_, _||_, false≢true, true≢false}
 use Prim.Native.Nat.{ℕ, _-_, _≤_, _<_}
 use native.Mathlib.Omega.{arith}
 use mathlib.Core.List.{List}
 use mathlib.Core.Logic.{⊎-elim}
+use lib.Dec.{leb, ltb, eqb}
 use lib.ListN.{length}
+use borrow.Author.Tests.{ltb-true, leb-true, eqb-false, not-false}
 use Rattle.consist.specs.declared.Consist.{Consist}
 use Rattle.track.specs.declared.Track.{Track}
 use Rattle.track.specs.declared.Under.{Under}
@@ -19,22 +22,31 @@ use Rattle.step.specs.declared.Run.{Run}
 use Rattle.step.specs.Step.{stepsMost, groundOf, even, stepOf}
 use Rattle.step.specs.Range.{squareMost}
 use Rattle.step.proofs.Gain.{gains, under-bound, gentle-no-steeper}
-use Rattle.walk.specs.Marks.{Marked, Open, predictionWith}
-use Rattle.walk.proofs.Arrivals.{Walked, walk-begins, unmarked, answer-stop, answer-never, walks-on}
+use Rattle.walk.specs.declared.Band.{Band}
+use Rattle.walk.specs.Marks.{Marked, Quiet, endedWith}
+use Rattle.walk.proofs.Arrivals.{Walked, walk-begins, unmarked, answer-ended, walks-on}
 use Rattle.walk.proofs.predict.Statement.{statement}
 use Rattle.walk.proofs.predict.Tie as tie
 
 abbrev Inv-loop : tie.InvT-loop
-Inv-loop c curve count starts grades curvatures head speed speeds length run₀ arrivals₀ next₀ n₀ run arrivals next n =
+Inv-loop c curve count starts grades curvatures head speed speeds length run₀ arrivals₀ band₀ n₀ run arrivals band n =
     Walked c (forceAt (c .rated) curve) (groundOf (trackOf count starts grades curvatures) (c .length)) head speed speeds n run arrivals
-    × Open speeds arrivals next
+    × Quiet speeds arrivals band
 
 abbrev μ-loop : tie.MeasureT-loop
-μ-loop c curve count starts grades curvatures head speed speeds length run₀ arrivals₀ next₀ n₀ run arrivals next n = stepsMost - n
+μ-loop c curve count starts grades curvatures head speed speeds length run₀ arrivals₀ band₀ n₀ run arrivals band n = stepsMost - n
 
-carried : {r : Run} {speeds before arrivals arrivals′ : List ℕ} {next next′ : ℕ} → arrivals′ ≡ arrivals → next′ ≡ next
-    → Marked r speeds before arrivals → Open speeds arrivals next → Marked r speeds before arrivals′ × Open speeds arrivals′ next′
+carried : {r : Run} {speeds before arrivals arrivals′ : List ℕ} {band band′ : Band} → arrivals′ ≡ arrivals → band′ ≡ band
+    → Marked r speeds before arrivals → Quiet speeds arrivals band → Marked r speeds before arrivals′ × Quiet speeds arrivals′ band′
 carried e f m o = rw (e, f) (m, o)
+
+in-band : (b : Band) (q : ℕ) → (ltb (b .low) q && leb q (b .high)) ≡ true → (b .low < q) × (q ≤ b .high)
+in-band b q h = by (ltb (b .low) q) (leb q (b .high)) refl refl h
+  where
+    by : (l m : Bool) → ltb (b .low) q ≡ l → leb q (b .high) ≡ m → (l && m) ≡ true → (b .low < q) × (q ≤ b .high)
+    by true true e f h = (ltb-true _ _ e, leb-true _ _ f)
+    by true false e f h = absurd (false≢true h)
+    by false m e f h = absurd (false≢true h)
 
 -- where both arms of the marking meet
 module _ (c : tie.Joined1 Inv-loop μ-loop) where
@@ -50,11 +62,13 @@ module _ (c : tie.Joined1 Inv-loop μ-loop) where
   abbrev force : ℕ → ℕ
   force = forceAt (entry .args .c .rated) (entry .args .curve)
 
-  marks : Marked (here .loop .run) (entry .args .speeds) (here .loop .arrivals) (c .if1 .arrivals) × Open (entry .args .speeds) (c .if1 .arrivals) (c .if1 .next)
+  marks : Marked (here .loop .run) (entry .args .speeds) (here .loop .arrivals) (c .if1 .arrivals) × Quiet (entry .args .speeds) (c .if1 .arrivals) (c .if1 .band)
   marks =
       let i = here .loop .inv in
       ⊎-elim (λ w. carried (w .3) (w .4) (w .1 .ensures) (w .2 .ensures))
-      (λ w. carried (w .1) (w .2) (unmarked _ _ _ _ (i .0 .size) (i .1) (w .0 .left)) (i .1))
+      (λ w.
+      let (low, high) = in-band (here .loop .band) (here .loop .run .q) (sym (c .before .lies-in .ensures) ∙ not-false _ (w .0 .left)) in
+      carried (w .1) (w .2) (unmarked _ _ _ _ (i .0 .size) (i .1) low high) (i .1))
       (c .if1 .came)
 
   slow : here .loop .run .q ≤ squareMost
@@ -65,16 +79,28 @@ module _ (c : tie.Joined1 Inv-loop μ-loop) where
 eight : (c : tie.Start Inv-loop μ-loop) → length (c .args .speeds) ≡ most
 eight c = omega arith
 
--- past the tests: the run has a step to make
-module _ (c : tie.Else3 Inv-loop μ-loop) where
+-- neither test holds
+neither : (q n : ℕ) → (eqb q 0 || eqb n stepsMost) ≡ false → (q ≡ 0 → ⊥) × (n ≡ stepsMost → ⊥)
+neither q n h = by (eqb q 0) (eqb n stepsMost) refl refl h
+  where
+    by : (a b : Bool) → eqb q 0 ≡ a → eqb n stepsMost ≡ b → (a || b) ≡ false → (q ≡ 0 → ⊥) × (n ≡ stepsMost → ⊥)
+    by true b e f h = absurd (true≢false h)
+    by false true e f h = absurd (true≢false h)
+    by false false e f h = (eqb-false q 0 e, eqb-false n stepsMost f)
+
+-- past the test: the run has a step to make
+module _ (c : tie.Else2 Inv-loop μ-loop) where
   abbrev joined : tie.Joined1 Inv-loop μ-loop
-  joined = c .before .before .before
+  joined = c .before .before
+
+  goes-on : (here joined .loop .run .q ≡ 0 → ⊥) × (here joined .loop .n ≡ stepsMost → ⊥)
+  goes-on = neither (here joined .loop .run .q) (here joined .loop .n) (c .if2 .left)
 
   steps-left : here joined .loop .n < stepsMost
-  steps-left = omega (arith, here joined .loop .inv .0 .steps, c .if3 .left)
+  steps-left = omega (arith, here joined .loop .inv .0 .steps, goes-on .1)
 
   moves : 0 < here joined .loop .run .q
-  moves = omega (arith, c .before .if2 .left)
+  moves = omega (arith, goes-on .0)
 
 -- the step over the ground under the train is the step over the track
 over-track : (c : Consist) (force : ℕ → ℕ) (t : Track) (length : ℕ) (r r′ : Run) (u : Under)
@@ -88,38 +114,31 @@ cast-length c = omega arith
 started-requires : tie.Need-started-requires Inv-loop μ-loop
 started-requires c κs = tt
 
-next-mark-requires : tie.Need-next-mark-requires Inv-loop μ-loop
-next-mark-requires c κs = tt
+quiet-band-requires : tie.Need-quiet-band-requires Inv-loop μ-loop
+quiet-band-requires c κs = tt
 
 loop-holds : tie.Need-loop-holds Inv-loop μ-loop
 loop-holds c =
     let a = c .before .before .before .args in
-    (rw (c .before .started .ensures) (walk-begins (a .c) _ _ (a .head) (a .speed) (a .speeds)), c .next-mark .ensures)
+    (rw (c .before .started .ensures) (walk-begins (a .c) _ _ (a .head) (a .speed) (a .speeds)), c .quiet-band .ensures)
+
+lies-in-requires : tie.Need-lies-in-requires Inv-loop μ-loop
+lies-in-requires c κs = tt
 
 marked-requires : tie.Need-marked-requires Inv-loop μ-loop
 marked-requires c κs = tt
 
-next-mark-requires-2 : tie.Need-next-mark-requires-2 Inv-loop μ-loop
-next-mark-requires-2 c κs = tt
+quiet-band-requires-2 : tie.Need-quiet-band-requires-2 Inv-loop μ-loop
+quiet-band-requires-2 c κs = tt
 
-predicted-requires : tie.Need-predicted-requires Inv-loop μ-loop
-predicted-requires c κs = tt
+ended-requires : tie.Need-ended-requires Inv-loop μ-loop
+ended-requires c κs = tt
 
 returns : tie.Need-returns Inv-loop μ-loop
 returns c =
     let j = c .before .before .before in
-    let e : c .predicted .result ≡ predictionWith (here j .loop .run .head) (j .if1 .arrivals) = c .predicted .ensures in
-    e ∙ answer-stop (eight (entry j)) (here j .loop .inv .0) (marks j .0) (entry j .pre .head) (c .before .if2 .taken)
-
-predicted-requires-2 : tie.Need-predicted-requires-2 Inv-loop μ-loop
-predicted-requires-2 c κs = tt
-
-returns-2 : tie.Need-returns-2 Inv-loop μ-loop
-returns-2 c =
-    let b = c .before .before in
-    let j = b .before .before in
-    c .predicted2 .ensures
-    ∙ answer-never (eight (entry j)) (here j .loop .inv .0) (marks j .0) (entry j .pre .head) (omega (arith, b .if2 .left)) (c .before .if3 .taken)
+    let e : c .ended .result ≡ endedWith (here j .loop .run) (j .if1 .arrivals) = c .ended .ensures in
+    e ∙ answer-ended (eight (entry j)) (here j .loop .inv .0) (marks j .0) (entry j .pre .head) (c .before .if2 .taken)
 
 under-train-requires : tie.Need-under-train-requires Inv-loop μ-loop
 under-train-requires c κs = tt
@@ -169,14 +188,13 @@ predict-spec =
     μ-loop
     cast-length
     started-requires
-    next-mark-requires
+    quiet-band-requires
     loop-holds
+    lies-in-requires
     marked-requires
-    next-mark-requires-2
-    predicted-requires
+    quiet-band-requires-2
+    ended-requires
     returns
-    predicted-requires-2
-    returns-2
     under-train-requires
     stepped-requires
     add-n
