@@ -67,11 +67,11 @@ typedef struct {
     int64_t time, state, penalty, cause, stop;
 } second_decision;
 
-/* The air that a walk brakes with. */
+/* The air that a walk brakes with.  All zero beyond A and B is the service curve. */
 typedef struct {
-    int emergency;         /* by which curve */
     int64_t a, b;
-    int64_t equalization;  /* the emergency curve's; the other finds its own */
+    int64_t equalization;  /* emergency's alone: the service curve has its own from A and B */
+    int emergency;         /* which of the two curves */
 } second_air;
 
 /* What a curve's walks of one sample say. */

@@ -47,18 +47,25 @@ int64_t second_standing(int64_t stood, int64_t called)
     return stood != 0 ? stood : called;
 }
 
-/* Both decisions' bytes: "a second decision record follows the first with mark
- * 0x45, its penalty bit and cause now meaning emergency, its location the
- * emergency stop" (02, R-5). */
-void second_write_both(unsigned char *output, const second_session *session,
-                       const second_sample *sample, int64_t stop, int64_t emergency_stop)
+/* "Decision": a sample's record, of the penalty or of emergency, by the cause that
+ * stands and this sample's own stop.  "The penalty bit is 1 exactly when the cause is
+ * not 0"; the second record has "its penalty bit and cause now meaning emergency, its
+ * location the emergency stop" (02, R-5), and time and state as the first. */
+second_decision second_decide(int emergency, const second_session *session,
+                              const second_sample *sample, int64_t cause, int64_t stop)
 {
-    int64_t state = session->brakes.state;
-    second_decision penalty = {0, sample->time, state, session->cause != 0, session->cause, stop};
-    second_decision emergency = {1, sample->time, state, session->emergency != 0,
-                                 session->emergency, emergency_stop};
-    second_write_decision(output, &penalty);
-    second_write_decision(output + SECOND_DECISION_BYTES, &emergency);
+    second_decision decision = {.emergency = emergency, .time = sample->time,
+                                .state = session->brakes.state, .penalty = cause != 0,
+                                .cause = cause, .stop = stop};
+    return decision;
+}
+
+/* "A second decision record follows the first" (02, R-5). */
+void second_write_both(unsigned char *output, const second_decision *penalty,
+                       const second_decision *emergency)
+{
+    second_write_decision(output, penalty);
+    second_write_decision(output + SECOND_DECISION_BYTES, emergency);
 }
 
 /* "Where several apply, the lowest number is returned."  "A sample call is lent
@@ -99,17 +106,19 @@ int second_judge(second_session *session,
     after.begun = 1;
     second_prediction penalty = second_predict(&after, &sample, &profile, &targets);
     after.cause = second_standing(after.cause, penalty.cause);
-    /* "From the sample that calls the penalty on"; "before the penalty the second
-     * record has bit, cause and location zero" (02, R-5). */
+
+    /* "From the sample that calls the penalty on"; "before the penalty the second record
+     * has bit, cause and location zero" (02, R-5), in states 3 and 4 too. */
     second_prediction emergency = {0, 0};
     if (after.cause != 0)
         emergency = second_predict_emergency(&after, &sample, &profile, &targets);
     after.emergency = second_standing(after.emergency, emergency.cause);
-    second_holds(after.emergency == 0 || after.cause != 0);
 
     if (output_count < SECOND_BOTH_BYTES)
         return 12;
-    second_write_both(output, &after, &sample, penalty.stop, emergency.stop);
+    second_decision first = second_decide(0, &after, &sample, after.cause, penalty.stop);
+    second_decision second = second_decide(1, &after, &sample, after.emergency, emergency.stop);
+    second_write_both(output, &first, &second);
     *session = after;
     return 0;
 }

@@ -49,21 +49,22 @@ int64_t second_cylinder(const second_consist *train, int64_t a, int64_t b, int64
     return b + 5 * drop / 2;
 }
 
-/* "Drop is (A minus equalization) x t / 10,000, down, not past equalization and
- * not below 0; p is B plus 6 drop" (02, R-5). */
-int64_t second_emergency_cylinder(int64_t a, int64_t b, int64_t equalization, int64_t t)
+/* "Drop is (A minus equalization) x t / 10,000, down, not past equalization and not
+ * below 0; p is B plus 6 drop" (02, R-5). */
+int64_t second_emergency_cylinder(const second_air *air, int64_t t)
 {
-    int64_t drop = (int64_t)second_down((second_wide)(a - equalization) * t, 10000);
-    drop = second_least(drop, a - equalization);
+    int64_t above = air->a - air->equalization;
+    int64_t drop = (int64_t)second_down((second_wide)above * t, 10000);
+    drop = second_least(drop, above);
     drop = second_greatest(drop, 0);
-    return b + 6 * drop;
+    return air->b + 6 * drop;
 }
 
-/* p at that clock, by the curve that the air follows. */
-int64_t second_cylinder_by(const second_consist *train, const second_air *air, int64_t t)
+/* "Cylinder p" of the curve that the air follows. */
+int64_t second_air_cylinder(const second_consist *train, const second_air *air, int64_t t)
 {
     if (air->emergency)
-        return second_emergency_cylinder(air->a, air->b, air->equalization, t);
+        return second_emergency_cylinder(air, t);
     return second_cylinder(train, air->a, air->b, t);
 }
 
@@ -126,7 +127,7 @@ void second_make_walk(second_walked *walked, const second_consist *train,
         int64_t s = second_root(q);
         int64_t grade, curve;
         second_averages(profile, head, train->length, &grade, &curve);
-        int64_t force = second_brake_force(train, second_cylinder_by(train, air, t));
+        int64_t force = second_brake_force(train, second_air_cylinder(train, air, t));
         second_wide opposing = second_opposing(train, force, s, q, grade, curve);
 
         q -= second_loss(train, opposing);
@@ -205,7 +206,7 @@ int64_t second_walk(const second_consist *train, const second_air *air,
  * (decision 27). */
 second_air second_held_air(const second_session *session)
 {
-    second_air air = {0, session->brakes.a, session->brakes.b, 0};
+    second_air air = {.a = session->brakes.a, .b = session->brakes.b};
     return air;
 }
 

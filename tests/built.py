@@ -56,7 +56,8 @@ def core(*words):
     """The second program's core, or a build of it, its functions to be called one by one."""
     made = library("core%s.so" % "".join(words), *words, "-DSECOND_NO_MAIN", SECOND, os.path.join(ROOT, "tests", "loss.c"))
     for name in ("root", "hundredths_up", "hundredths_down", "service_equalization", "nominal",
-                 "cylinder", "brake_force", "step_time", "stop", "location", "walk", "target_offset", "bits"):
+                 "cylinder", "emergency_cylinder", "air_cylinder", "brake_force", "step_time", "stop", "location", "walk",
+                 "target_offset", "bits"):
         getattr(made, "second_" + name).restype = ctypes.c_int64
     made.loss_of.restype = ctypes.c_int64
     return made

@@ -116,9 +116,26 @@ class Sample(ctypes.Structure):
         + [("rear_present", ctypes.c_int)]
 
 
+class Targets(ctypes.Structure):
+    _fields_ = [("records", ctypes.c_int64)] + [(name, ctypes.c_int64 * 8) for name in ("location", "speed")]
+
+
 class Air(ctypes.Structure):
-    _fields_ = [("emergency", ctypes.c_int)] + [
-        (name, ctypes.c_int64) for name in ("a", "b", "equalization")]
+    _fields_ = [(name, ctypes.c_int64) for name in ("a", "b", "equalization")] + [("emergency", ctypes.c_int)]
+
+
+class Prediction(ctypes.Structure):
+    _fields_ = [(name, ctypes.c_int64) for name in ("stop", "cause")]
+
+
+def started(session):
+    """The air that emergency starts from: A, B and equalization."""
+    call = built.core().second_emergency_air
+    call.restype = Air
+    air = call(ctypes.byref(session))
+    if air.emergency != 1:
+        raise AssertionError("not the curve of emergency")
+    return air.a, air.b, air.equalization
 
 
 def whole(*numbers):

@@ -1,240 +1,328 @@
-"""Tests of the second program: emergency behind the penalty (02, R-5)."""
+"""Tests of the second program: R-5 of 02, emergency behind the penalty: its air, its curve, its stop and its call.
+
+The train is that of 01's case on the level, and most walks start at head 5,000 with 10.00 mph.  The loss of a step is then
+(1,000,000 F + 1,400,000,000 + 100,000 s + 70 q) x 1,449 / 605,000,000, and F is 200,000 p / 6,400.
+"""
 
 import ctypes
+import math
+import random
 import unittest
 
 from built import core
-from here import example, feeds
-from second_program import Air, Brakes, CONSIST, Decision, Session, both, made, mph, psi, run, told, whole
+from second_program import Air, Brakes, CONSIST, Consist, Prediction, Profile, Sample, Session, TRAIN, Targets, started, whole
 
-# The train of 01's case on a longer level track.
-LONG = "profile 0\nprofile 60000\n"
-
-
-def lines(samples, targets, **more):
-    """The pairs for samples (time, head, mph) or (time, head, mph, front, rear), pressures 90 psi unless given."""
-    given = [(time, head, speed, *(rest or ("90.0", "90.0"))) for time, head, speed, *rest in samples]
-    more.setdefault("profile", LONG)
-    return both(given, targets="".join("target %d speed %d\n" % one for one in targets), **more)
+NONE = 16777215
+DOWN = -500                 # 5 % downhill: without brakes no train stops there
 
 
-def seconds(samples, targets, **more):
-    """The second lines."""
-    return [second for _, second in lines(samples, targets, **more)]
+def held(state=0, a=9000, b=0, front=9000, rear=9000, equalization=0, **train):
+    """A session after an update that left its brakes so, charged unless it is told otherwise."""
+    return Session(open=1, begun=1, train=Consist(**dict(TRAIN, **train)), cause=1, brakes=Brakes(
+        state=state, hold=9000, a=a, b=b, equalization=equalization, last_front=front, last_rear=rear))
+
+
+def ground(grade=0):
+    """The same grade throughout."""
+    profile = Profile(records=2)
+    profile.start[1], profile.grade[0] = 60000, grade
+    return profile
+
+
+def predicted(session, targets=(), speed=1000, head=5000, grade=0, call="second_predict_emergency"):
+    """The stop and the cause of a prediction; a target is its location and speed."""
+    lent = Targets(records=len(targets))
+    for i, (location, allowed) in enumerate(targets):
+        lent.location[i], lent.speed[i] = location, allowed
+    function = getattr(core(), call)
+    function.restype = Prediction
+    found = function(ctypes.byref(session), ctypes.byref(Sample(head=head, speed=speed)), ctypes.byref(ground(grade)),
+                     ctypes.byref(lent))
+    return found.stop, found.cause
+
+
+class Starting(unittest.TestCase):
+    """ "Combine A and find equalization by the emergency rule, unless the state is 3 or 4." """
+
+    def test_charged(self):
+        # Nominal 9,000: (45,000 + 63,000) / 14 = 7,714.3, and 108,000 / 12.
+        self.assertEqual(started(held(0)), (9000, 0, 7714))
+
+    def test_applying_service(self):
+        # 01's figure: (35,000 + 10,000 + 63,000) / 14 = 7,714.3, then 98,000 / 12 = 8,166.7.  The
+        # 6,428 that the service falls to has no part in it.
+        self.assertEqual(started(held(1, 7000, 5000, equalization=6428)), (8166, 5000, 7714))
+
+    def test_holding_service(self):
+        # Front 8,500 and rear 7,000 make nominal 8,250: (42,500 + 2,494 + 57,750) / 14 = 7,338.9,
+        # then 100,250 / 12 = 8,354.2.
+        self.assertEqual(started(held(2, 8500, 1247, 8500, 7000, equalization=6428)), (8354, 1247, 7338))
+
+    def test_emergency_is_as_it_is(self):
+        # By the rule it would be (40,000 + 6,000 + 57,750) / 14 = 7,410 and 97,750 / 12 = 8,145.
+        self.assertEqual(started(held(3, 8000, 3000, 8500, 7000, equalization=7714)), (8000, 3000, 7714))
+        # (38,570 + 15,432 + 63,000) / 14 = 8,357 and 101,570 / 12 = 8,464.
+        self.assertEqual(started(held(4, 7714, 7716, equalization=7714)), (7714, 7716, 7714))
+        # Also where A is below it.
+        self.assertEqual(started(held(3, 6032, 6429, 6500, 0, equalization=6089)), (6032, 6429, 6089))
+
+    def test_charging(self):
+        # Front 9,000 and rear 8,001: half of 999 is 499, nominal 8,501.  (38,570 + 59,507) / 14 =
+        # 7,005.5, then 98,077 / 12 = 8,173.1.  The 7,714 of an emergency before has no part in it.
+        self.assertEqual(started(held(5, 7714, 0, 9000, 8001, equalization=7714)), (8173, 0, 7005))
+
+    def test_equalization_before_a_is_combined(self):
+        # From A combined, 8,166, it would be (40,830 + 10,000 + 63,000) / 14 = 8,130; from 8,354
+        # (41,770 + 2,494 + 57,750) / 14 = 7,286.
+        self.assertEqual(started(held(1, 7000, 5000))[2], 7714)
+        self.assertEqual(started(held(2, 8500, 1247, 8500, 7000))[2], 7338)
+
+    def test_nominal(self):
+        # A rear higher than the front makes no difference.
+        self.assertEqual(started(held(0, front=7000, rear=9000)), (9000, 0, 7714))
+        # 7,000 less half of 16,000 is not below 0: 35,000 / 14, and 35,000 / 12 = 2,916.7.
+        self.assertEqual(started(held(0, 7000, 0, 16000, 0, set=7000)), (2916, 0, 2500))
+
+    def test_a_below_equalization(self):
+        # Nominal 5,750: (32,140 + 12,858 + 40,250) / 14 = 6,089.1, then 72,390 / 12 = 6,032.5.
+        self.assertEqual(started(held(2, 6428, 6429, 6500, 0)), (6032, 6429, 6089))
 
 
 class Curve(unittest.TestCase):
+    """ "Drop is (A minus equalization) x t / 10,000, down, not past equalization and not below 0; p is B plus 6 drop." """
 
-    def cylinder(self, a, b, equalization, t):
-        return core().second_emergency_cylinder(*whole(a, b, equalization, t))
+    def cylinder(self, air, t):
+        p = core().second_emergency_cylinder(ctypes.byref(air), *whole(t))
+        # It is the one that a walk by this air takes.
+        self.assertEqual(core().second_air_cylinder(ctypes.byref(CONSIST), ctypes.byref(air), *whole(t)), p)
+        return p
 
-    def test_figures(self):
-        # A 9,000, B 0, nominal 9,000: equalization 108,000 / 14 = 7,714.2, A combined 9,000.
-        # 1,286 x 1,090 / 10,000 = 140.1, six times 140; 200,000 x 840 / 6,400 = 26,250.
-        self.assertEqual(self.cylinder(9000, 0, 7714, 1090), 840)
-        self.assertEqual(core().second_brake_force(ctypes.byref(CONSIST), *whole(840)), 26250)
-        self.assertEqual(self.cylinder(9000, 0, 7714, 10000), 7716)
+    def test_drop_and_cap(self):
+        # 9,000 - 7,714 = 1,286.
+        for t, drop in ((0, 0),
+                        (7, 0),                 # 0.90
+                        (8, 1),                 # 1.03
+                        (1090, 140),            # 140.17
+                        (5000, 643),
+                        (9999, 1285),           # 1,285.87
+                        (10000, 1286),
+                        (10008, 1286),          # 1,287.03, past equalization
+                        (2048 * 1090909, 1286)):
+            with self.subTest(t=t):
+                self.assertEqual(self.cylinder(Air(9000, 0, 7714, 1), t), 6 * drop)
+                self.assertEqual(self.cylinder(Air(9000, 1247, 7714, 1), t), 1247 + 6 * drop)
 
-    def test_ends(self):
-        self.assertEqual(self.cylinder(9000, 100, 7714, 0), 100)
-        self.assertEqual(self.cylinder(9000, 0, 7714, 9999), 6 * 1285)
-        # not past equalization, however long it takes
-        self.assertEqual(self.cylinder(9000, 0, 7714, 10001), 7716)
-        self.assertEqual(self.cylinder(9000, 0, 7714, 2 ** 31), 7716)
-        # not below 0
-        self.assertEqual(self.cylinder(6000, 6429, 6001, 0), 6429)
-        self.assertEqual(self.cylinder(6000, 6429, 6500, 10 ** 9), 6429)
+    def test_not_below_zero(self):
+        # 6,032 is 57 below 6,089; and none above.
+        for t in (0, 1, 1090, 10000, 2048 * 1090909):
+            self.assertEqual(self.cylinder(Air(6032, 6429, 6089, 1), t), 6429)
+            self.assertEqual(self.cylinder(Air(7714, 7716, 7714, 1), t), 7716)
 
-    def air(self, **held):
-        """What the curve starts from: A and equalization."""
-        session = Session(open=1, begun=1, train=CONSIST, brakes=Brakes(**held))
-        before = bytes(session)
-        core().second_emergency_air.restype = Air
-        air = core().second_emergency_air(ctypes.byref(session))
-        self.assertEqual((air.emergency, air.b), (1, held["b"]))
-        self.assertEqual(bytes(session), before)
-        return air.a, air.equalization
+    def test_greatest(self):
+        # No overflow: 11,000 over 0, at the longest clock.
+        self.assertEqual(self.cylinder(Air(11000, 9434, 0, 1), 2048 * 1090909), 9434 + 66000)
 
-    def test_combined_in_four_states(self):
-        # Front 85, rear 60: nominal 9,000 - 1,250 = 7,750.  Equalization of A as it stands,
-        # (40,000 + 2,000 + 54,250) / 14 = 6,875; then A, (40,000 + 54,250) / 12 = 7,854.1.
-        for state in (0, 1, 2, 5):
-            self.assertEqual(self.air(state=state, a=8000, b=1000, equalization=123, last_front=8500, last_rear=6000),
-                             (7854, 6875))
-        # a rear above the front leaves nominal at set
-        self.assertEqual(self.air(state=2, a=8000, b=1000, equalization=123, last_front=6000, last_rear=8500),
-                         (8583, 7500))
-
-    def test_as_held_in_emergency(self):
-        for state in (3, 4):
-            self.assertEqual(self.air(state=state, a=8000, b=1000, equalization=7123, last_front=8500, last_rear=6000),
-                             (8000, 7123))
+    def test_penalty_keeps_its_own(self):
+        # 01's figure, and its cap: an equalization beside it has no part in the service curve.
+        for t, p in ((1090, 232), (10 ** 9, 6430)):
+            for air in (Air(9000), Air(9000, 0, 7714, 0)):
+                self.assertEqual(core().second_air_cylinder(ctypes.byref(CONSIST), ctypes.byref(air), *whole(t)), p)
 
 
-class Vectors(unittest.TestCase):
-    """Those of the request's issue, worked apart from this program."""
+class Stop(unittest.TestCase):
+    """The walk by emergency air."""
 
-    BOARD = ((0, 5000, "40.0"), (1, 6300, "40.0"), (2, 7263, "40.0"), (3, 7264, "40.0"), (4, 7300, "20.0"), (5, 7400, "0.0"))
-    APPLIED = ((0, 5000, "40.0", "90.0", "90.0"), (1, 6000, "40.0", "70.0", "88.0"), (2, 6058, "40.0", "85.0", "50.0"),
-               (3, 6116, "40.0", "85.0", "50.0"), (8, 6400, "40.0", "85.0", "60.0"), (9, 6458, "40.0", "85.0", "85.0"),
-               (11, 6570, "38.0", "85.5", "85.0"), (12, 6620, "38.0", "88.0", "60.0"))
+    def test_charged(self):
+        # A 9,000, equalization 7,714.
+        #       s   drop      p        F     loss        q      t
+        # 1  1,000      0      0        0    3,760  996,240  1,090
+        # 2    998    140    840   26,250   66,628  929,612  2,183
+        # 3    964    280  1,680   52,500  129,479  800,133  3,314
+        # 4    894    426  2,556   79,875  195,005  605,128  4,534
+        # 5    777    583  3,498  109,312  265,447  339,681  5,938
+        # 6    582    763  4,578  143,062  346,188 stops it: 96 ft.
+        self.assertEqual(predicted(held(0)), (5096, 0))
+        # The service needs 176 (test_second_walk).
+        self.assertEqual(predicted(held(0), call="second_predict"), (5176, 0))
 
-    def test_at_the_board(self):
-        self.assertEqual(lines(self.BOARD, ((4000, 0), (7600, 2000), (8000, 0), (8001, 0))), [
-            ("0 0 0 0 6296", "0 0 0 0 0"), ("1 0 1 2 7596", "1 0 0 0 7036"), ("2 0 1 2 8559", "2 0 0 0 7999"),
-            ("3 0 1 2 8560", "3 0 1 3 8000"), ("4 0 1 2 7764", "4 0 1 3 7556"), ("5 0 1 2 7400", "5 0 1 3 7400")])
+    def test_low_nominal(self):
+        # Front 9,000 and rear 5,000: nominal 7,000.  94,000 / 14 = 6,714, 94,000 / 12 = 7,833.
+        # 1  1,000      0      0        0    3,760  996,240  1,090
+        # 2    998    121    726   22,687   58,095  938,145  2,183
+        # 3    968    244  1,464   45,750  113,315  824,830  3,309
+        # 4    908    370  2,220   69,375  169,864  654,966  4,510
+        # 5    809    504  3,024   94,500  229,988  424,978  5,858
+        # 6    651    655  3,930  122,812  297,720  127,258  7,533
+        # 7    356    842  5,052  157,875  381,576 stops it: 112 ft.
+        self.assertEqual(predicted(held(0, front=9000, rear=5000)), (5112, 0))
+        # The other way round the difference is 0.
+        self.assertEqual(predicted(held(0, front=5000, rear=9000)), (5096, 0))
 
-    def test_applied(self):
-        got = dict((int(first.split()[0]), (first, second))
-                   for first, second in lines(self.APPLIED, ((7000, 0), (7100, 0))))
-        self.assertEqual([got[time] for time in (0, 1, 2, 8, 11, 12)], [
-            ("0 0 0 0 6296", "0 0 0 0 0"), ("1 3 1 1 7296", "1 3 0 0 6736"), ("2 3 1 1 7162", "2 3 0 0 6762"),
-            ("8 3 1 1 6928", "8 3 0 0 6928"), ("11 4 1 1 6970", "11 4 0 0 6970"), ("12 5 1 1 7820", "12 5 1 1 7372")])
+    def test_applying_service(self):
+        # A and B are those of a charged train yet, and so is the stop: not by the held 6,428.
+        self.assertEqual(predicted(held(1, equalization=6428)), (5096, 0))
 
-    def test_stored_feeds_are_these(self):
-        for name, samples, targets in (
-                ("emergency-at-the-board", self.BOARD, ((4000, 0), (7600, 2000), (8000, 0), (8001, 0))),
-                ("emergency-applied", self.APPLIED, ((7000, 0), (7100, 0)))):
-            words = example("figures/" + name)
-            stated = [line[3:] for line in words.splitlines() if line.startswith("#> ")]
-            self.assertEqual(told(stated), lines(samples, targets))
-            self.assertEqual(run(feeds.make(words)).splitlines(), stated)
+    def test_holding_service(self):
+        # A 8,500, B 1,247, nominal 9,000: (42,500 + 2,494 + 63,000) / 14 = 7,713, 105,500 / 12 = 8,791.
+        # 1  1,000      0  1,247   38,968   97,090  902,910  1,090
+        # 2    950    117  1,949   60,906  149,604  753,306  2,238
+        # 3    867    241  2,693   84,156  205,244  548,062  3,496
+        # 4    740    376  3,503  109,468  265,802  282,260  4,970
+        # 5    531    535  4,457  139,281  337,111 stops it: 80 ft.
+        # Equalization from A combined, 7,817, would need 96.
+        self.assertEqual(predicted(held(2, 8500, 1247, equalization=6428)), (5080, 0))
+
+    def test_applying_emergency(self):
+        # One second into an emergency from 9,000 to 7,714 by 129 a second: A 8,871, B 774.
+        # 1  1,000      0    774   24,187   61,689  938,311  1,090
+        # 2    968    126  1,530   47,812  118,253  820,058  2,216
+        # 3    905    256  2,310   72,187  176,598  643,460  3,421
+        # 4    802    395  3,144   98,250  238,965  404,495  4,781
+        # 5    635    553  4,092  127,875  309,838   94,657  6,498
+        # 6    307    751  5,280  165,000  398,624 stops it: 96 ft.
+        # A rear of 0, nominal 4,500, is of no account: combined once more it would need 112.
+        for rear in (9000, 0):
+            self.assertEqual(predicted(held(3, 8871, 774, rear=rear, equalization=7714)), (5096, 0))
+
+    def test_holding_emergency(self):
+        # No drop: p is 7,716 throughout, F 241,125.
+        # 1  1,000   loss 581,264   q 418,736
+        # 2    647        581,082 stops it: 32 ft.
+        self.assertEqual(predicted(held(4, 7714, 7716, equalization=7714)), (5032, 0))
+        # From 40.00 mph 448 ft (by the model below); combined once more it would be 432.
+        self.assertEqual(self.model(4000, 7714, 7716, 7714), 5448)
+        self.assertEqual(predicted(held(4, 7714, 7716, equalization=7714), speed=4000), (5448, 0))
+
+    def test_charging(self):
+        # A 8,500, B 0, nominal 9,000: 105,500 / 14 = 7,535, 105,500 / 12 = 8,791.
+        # 1  1,000      0      0        0    3,760  996,240  1,090
+        # 2    998    136    816   25,500   64,832  931,408  2,183
+        # 3    965    274  1,644   51,375  126,785  804,623  3,313
+        # 4    897    416  2,496   78,000  190,516  614,107  4,529
+        # 5    783    568  3,408  106,500  258,715  355,392  5,922
+        # 6    596    743  4,458  139,312  337,213   18,179  7,752
+        # 7    134    973  5,838  182,437  440,332 stops it: 112 ft.
+        self.assertEqual(predicted(held(5, 8500, 0, equalization=6427)), (5112, 0))
+
+    def test_no_drop(self):
+        # A 6,032 under 6,089: p is B, 6,429, throughout, F 200,906.
+        # 1  1,000   loss 484,938   q 515,062
+        # 2    717        484,789      30,273
+        # 3    173        484,577 stops it: 48 ft.
+        self.assertEqual(predicted(held(2, 6428, 6429, 6500, 0)), (5048, 0))
+
+    def test_no_step_and_no_stop(self):
+        self.assertEqual(predicted(held(0, rated=0), speed=0, grade=DOWN), (5000, 0))
+        self.assertEqual(predicted(held(0, rated=0), speed=1, grade=DOWN), (NONE, 0))
+
+    def test_nothing_says_that_it_stops_earlier(self):
+        # Decision 110.  A 8,000, B 2,500, and nominal 1,000 by a front of 16,000 and a rear of 0: A is
+        # 47,000 / 12 = 3,916 and equalization 52,000 / 14 = 3,714, so that p comes to 2,500 + 6 x 202 =
+        # 3,712 at most; by the service to 2,500 + 5/2 x (8,000 - 6,428) = 6,430.
+        session = held(2, 8000, 2500, 16000, 0)
+        self.assertEqual(started(session), (3916, 2500, 3714))
+        service, _ = predicted(session, speed=4000, call="second_predict")
+        emergency, _ = predicted(session, speed=4000)
+        self.assertLess(service, emergency)
+        self.assertEqual(emergency, self.model(4000, 3916, 2500, 3714))
+
+    def model(self, speed, a, b, equalization, grade=0, **train):
+        """The stop once more, from the papers."""
+        given = dict(TRAIN, **train)
+        weight = given["weight"]
+        q, t, head = speed * speed, 0, 5000
+        while q > 0 and head < 5000 + 32768:
+            s = math.isqrt(q)
+            drop = max(0, min((a - equalization) * t // 10000, a - equalization))
+            force = given["rated"] * (b + 6 * drop) // 6400
+            q -= 1449 * (1000000 * force + 600000 * weight + 20000000 * given["axles"] + 100 * weight * s
+                         + 7 * given["cars"] * q + 200000 * weight * grade) // (605000 * weight)
+            t += 12000000 // (11 * s)
+            head += 16
+        return head if q <= 0 else NONE
+
+    def test_many(self):
+        draw = random.Random(5)
+        none = 0
+        for _ in range(400):
+            state, a, b = draw.randrange(6), draw.randint(3000, 11000), draw.choice((0, draw.randint(0, 9434)))
+            front, rear = draw.randint(0, 16000), draw.randint(0, 16000)
+            equalization = draw.randint(3000, 9000)
+            train = {"set": draw.randint(7000, 11000), "weight": draw.randint(100, 30000),
+                     "rated": draw.choice((20000, 200000, draw.randint(0, 10 ** 7)))}
+            speed, grade = draw.choice((1, 300, 2500, 10000)), draw.choice((0, 0, -50, -150, 500))
+            nominal = max(0, train["set"] - max(0, front - rear) // 2)
+            if state in (3, 4):
+                air = a, b, equalization
+            else:
+                air = (5 * a + 7 * nominal) // 12, b, (5 * a + 2 * b + 7 * nominal) // 14
+            session = held(state, a, b, front, rear, equalization, **train)
+            stop = self.model(speed, *air, grade, **train)
+            self.assertEqual(started(session), air)
+            self.assertEqual(predicted(session, speed=speed, grade=grade), (stop, 0))
+            none += stop == NONE
+        self.assertTrue(20 < none < 300)
 
 
 class Called(unittest.TestCase):
+    """ "Emergency is called if the stop is at or past a judged target of speed 0, with no offset." """
 
-    # The case's train stops from 40 mph in 736 ft by emergency air, in 1,296 by service.
+    def cause(self, *targets, **more):
+        """By a charged train that stops at 5,096."""
+        stop, cause = predicted(held(0, **more), targets)
+        self.assertEqual(stop, 5096)
+        return cause
+
     def test_at_or_past(self):
-        for board, called in ((5735, 1), (5736, 1), (5737, 0)):
-            self.assertEqual(seconds([(0, 5000, "40.0")], [(board, 0)]), ["0 0 %d %d 5736" % (called, called)])
+        self.assertEqual(self.cause((5095, 0)), 1)
+        self.assertEqual(self.cause((5096, 0)), 1)
+        self.assertEqual(self.cause((5097, 0)), 0)          # a foot short of it
 
     def test_no_offset(self):
-        for offset in (0, 4000):
-            self.assertEqual(seconds([(0, 5000, "40.0")], [(5737, 0)], offset=offset), ["0 0 0 0 5736"])
+        for offset in (0, 500, 4000):
+            self.assertEqual(self.cause((5096, 0), offset=offset), 1)
+            self.assertEqual(self.cause((5097, 0), offset=offset), 0)
 
-    def test_only_speed_zero(self):
-        self.assertEqual(seconds([(0, 5000, "40.0")], [(5500, 1)]), ["0 0 0 0 5736"])
-        self.assertEqual(seconds([(0, 5000, "40.0")], [(5500, 1), (5600, 0)]), ["0 0 1 2 5736"])
+    def test_speed_above_zero(self):
+        for location in (5000, 5095, 5096, 5097):
+            for speed in (1, 1000, 10000):
+                self.assertEqual(self.cause((location, speed)), 0)
 
-    def test_judged_targets_only(self):
-        # Without brakes on 5 % downhill there is no stop, which is past every target.
-        down = {"rated": 0, "offset": 0, "profile": "profile 0 grade -500\nprofile 60000"}
-        for board, called in ((4999, 0), (5000, 2), (37768, 2), (37769, 0)):
-            targets = [(4500, 0), (board, 0), (37770, 0)]
-            want = "0 0 1 2 16777215" if called else "0 0 0 0 0"
-            self.assertEqual(seconds([(0, 5000, "30.0")], targets, **down), [want])
+    def test_judged(self):
+        self.assertEqual(self.cause((5000, 0)), 1)
+        self.assertEqual(self.cause((4999, 0)), 0)          # behind the head
+        self.assertEqual(self.cause((0, 0)), 0)
 
-    def test_at_rest_on_its_board(self):
-        # With the penalty standing the train is called, the letter's reading; without it there is nothing to call.
-        got = lines([(0, 5000, "1.0"), (1, 5400, "0.0"), (2, 5531, "0.0")], [(5531, 0)])
-        self.assertEqual(got[1:], [("1 0 1 1 5400", "1 0 0 0 5400"), ("2 0 1 1 5531", "2 0 1 1 5531")])
-        self.assertEqual(lines([(0, 5531, "0.0")], [(5531, 0)]), [("0 0 0 0 5531", "0 0 0 0 0")])
+    def test_no_stop_is_past_every_judged_target(self):
+        # 5,000 + 32,768 = 37,768.
+        for target, called in (((4999, 0), 0), ((5000, 0), 1), ((37768, 0), 1), ((37769, 0), 0), ((4000000, 0), 0),
+                               ((37768, 1), 0), ((5000, 10000), 0)):
+            self.assertEqual(predicted(held(0, rated=0), [target], grade=DOWN), (NONE, called))
 
-    def test_none_before_the_penalty(self):
-        # States 3 and 4 too: what is called is emergency behind a penalty.
-        got = lines([(0, 5000, "1.0"), (1, 5000, "1.0", "70.0", "70.0"), (6, 5000, "1.0", "70.0", "70.0"),
-                     (11, 5000, "1.0", "70.0", "70.0")], [(9000, 0)])
-        self.assertEqual([second for _, second in got], ["0 0 0 0 0", "1 3 0 0 0", "6 3 0 0 0", "11 4 0 0 0"])
+    def test_at_rest(self):
+        # The stop is the head: the letter, "at or past".
+        self.assertEqual(predicted(held(0), [(5000, 0)], speed=0), (5000, 1))
+        self.assertEqual(predicted(held(0), [(5001, 0)], speed=0), (5000, 0))
+        self.assertEqual(predicted(held(0), [(4999, 0)], speed=0), (5000, 0))
 
-    def test_stop_is_each_samples_own(self):
-        got = seconds([(0, 5000, "40.0"), (1, 5001, "40.0"), (2, 5100, "0.0")], [(5100, 0)])
-        self.assertEqual(got, ["0 0 1 1 5736", "1 0 1 1 5737", "2 0 1 1 5100"])
+    def test_first_such_target(self):
+        self.assertEqual(self.cause(), 0)
+        # Behind; with a speed; past; at; short.
+        self.assertEqual(self.cause((4999, 0), (5010, 1), (5050, 0), (5096, 0), (5097, 0)), 3)
+        self.assertEqual(self.cause((4999, 0), (5010, 1), (5096, 0), (5097, 0)), 3)
+        self.assertEqual(self.cause((4999, 0), (5010, 1), (5097, 0)), 0)
+        # Each of the list's eight places.
+        for place in range(1, 9):
+            self.assertEqual(self.cause(*((5000 + i, int(i < place)) for i in range(1, 9))), place)
 
-    def test_emergency_may_stop_later(self):
-        # Front 160, rear 0: nominal is 9,000 - 8,000 = 1,000.  Equalization is (45,000 + 7,000) / 14 = 3,714, A combined
-        # (45,000 + 7,000) / 12 = 4,333; six times 619 is less than the 6,430 that quick service brakes come to.
-        (first, second), = lines([(0, 5000, "40.0", "160.0", "0.0")], [(5100, 0)], application=1000)
-        self.assertLess(int(first.split()[4]), int(second.split()[4]))
-
-    def test_causes_differ(self):
-        stated = [line[3:] for line in example("figures/emergency-later-target").splitlines() if line.startswith("#> ")]
-        self.assertEqual(stated[-2:], ["19 0 1 1 7635", "19 0 1 3 7075"])
-
-
-class Calls(unittest.TestCase):
-    """second_judge, by its bytes."""
-
-    @classmethod
-    def setUpClass(cls):
-        cls.consist, profile, _, cls.samples = feeds.split(made(
-            [(time, 5000 + time, mph(4000), psi(9000), psi(9000)) for time in range(6)], profile=LONG))
-        cls.profile = profile[2:]
-
-    def opened(self, session=None):
-        session = session or Session()
-        self.assertEqual(core().second_open(ctypes.byref(session), self.consist, ctypes.c_size_t(16)), 0)
-        return session
-
-    def judge(self, session, place, targets):
-        """Penalty's cause, emergency's and its location after that sample."""
-        lent = b"".join(feeds.pack_target(*one) for one in targets)
-        output = ctypes.create_string_buffer(16)
-        self.assertEqual(core().second_judge(
-            ctypes.byref(session), self.samples[place], ctypes.c_size_t(20), self.profile, ctypes.c_size_t(len(self.profile)),
-            lent, ctypes.c_size_t(len(lent)), output, ctypes.c_size_t(16)), 0)
-        self.assertEqual((output.raw[0], output.raw[8]), (0x44, 0x45))
-        self.assertEqual(output.raw[1:4], output.raw[9:12])
-        return (core().second_bits(output.raw, 36, 4), core().second_bits(output.raw, 64 + 36, 4),
-                core().second_bits(output.raw, 64 + 40, 24))
-
-    def test_stands_over_changed_lists(self):
-        # The cause is the place in the list at the calling sample; afterwards neither another list nor none changes it.
-        session = self.opened()
-        self.assertEqual(self.judge(session, 0, [(9000, 0)]), (0, 0, 0))
-        self.assertEqual(self.judge(session, 1, [(10, 0), (9000, 10000), (9100, 0)]), (0, 0, 0))
-        self.assertEqual(self.judge(session, 2, [(6000, 5)]), (1, 0, 5738))
-        self.assertEqual(self.judge(session, 3, [(10, 0), (5300, 1), (5400, 0)]), (1, 3, 5739))
-        self.assertEqual(self.judge(session, 4, [(5100, 0)]), (1, 3, 5740))
-        self.assertEqual(self.judge(session, 5, []), (1, 3, 5741))
-        self.assertEqual((session.cause, session.emergency), (1, 3))
-
-    def test_opening_clears_both(self):
-        session = self.opened()
-        self.judge(session, 0, [(5100, 0)])
-        self.assertEqual((session.cause, session.emergency), (1, 1))
-        self.opened(session)
-        self.assertEqual((session.cause, session.emergency), (0, 0))
-        self.assertEqual(self.judge(session, 0, [(9000, 0)]), (0, 0, 0))
-
-    def test_what_is_held_stays(self):
-        # The prediction combines A for itself alone: the session's is the one that the update left.
-        called, other = self.opened(), self.opened()
-        for place in range(3):
-            self.judge(called, place, [(5100, 0)])
-            self.judge(other, place, [])
-        self.assertEqual(bytes(called.brakes), bytes(other.brakes))
-
-
-class Reader(unittest.TestCase):
-    """A decision of either mark."""
-
-    def read(self, data):
-        decision = Decision()
-        refusal = core().second_read_decision(data, ctypes.c_size_t(len(data)), ctypes.byref(decision))
-        return refusal, decision
-
-    def test_marks(self):
-        rest = bytes.fromhex("00000111" "0013a8")
-        for mark, emergency in ((0x44, 0), (0x45, 1)):
-            refusal, got = self.read(bytes([mark]) + rest)
-            self.assertEqual((refusal, got.emergency, got.time, got.state, got.penalty, got.cause, got.stop),
-                             (0, emergency, 1, 0, 1, 1, 5032))
-        for mark in (0x00, 0x43, 0x46, 0x53, 0x54, 0xC4, 0xFF):
-            self.assertEqual(self.read(bytes([mark]) + rest)[0], 3)
-
-    def test_refusals(self):
-        for mark in "44", "45":
-            for data, number in ((mark + "00000111" "0013a8" "00", 2), (mark + "00000111" "0013", 2),
-                                 (mark + "000001d1" "0013a8", 4), (mark + "00000119" "0013a8", 4),
-                                 (mark + "00000110" "0013a8", 4), (mark + "00000101" "0013a8", 4),
-                                 (mark + "00000100" "3d0901", 4), (mark + "00000100" "fffffe", 4),
-                                 (mark + "00000100" "3d0900", 0), (mark + "00000100" "ffffff", 0),
-                                 (mark + "000001b8" "000000", 0)):
-                with self.subTest(data=data):
-                    self.assertEqual(self.read(bytes.fromhex(data))[0], number)
-        # a wrong mark before a field out of its range, a wrong length before both
-        self.assertEqual(self.read(bytes.fromhex("46000001d1" "0013a8"))[0], 3)
-        self.assertEqual(self.read(bytes.fromhex("46000001d1" "0013a800"))[0], 2)
+    def test_own_call(self):
+        # Whatever stands already, the prediction's is this list's; and it changes nothing.
+        for stood in (0, 3):
+            session = held(0, front=9000, rear=5000)
+            session.cause = session.emergency = stood
+            before = bytes(session)
+            self.assertEqual(predicted(session, [(5050, 1), (5060, 0)]), (5112, 2))
+            self.assertEqual(bytes(session), before)
 
 
 if __name__ == "__main__":
