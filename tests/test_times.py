@@ -10,7 +10,7 @@ LINES = """rt: bits proved (11 s)
 rt: whole proved (4 s)
 rt: must-fail bits/seven_bits: refused, as it must be (first at proofs/word/Proof.antt:9:3; 10 s)
 rt: must-fail bits/half_written: refused, as it must be (12 s)
-rt: must-fail whole/root_below: refused, as it must be (first at proofs/isqrt/Proof.antt:20:1; 5 s)
+rt: must-fail whole/root_one_bit: refused, as it must be (first at proofs/isqrt/Proof.antt:20:1; 5 s)
 rt: must-fail whole/other: NOT REFUSED: the crate is still proved with this edit (4 s)
 rt: ok, 2 crates proved, 3 must-fail edits refused""".splitlines()
 

@@ -14,4 +14,13 @@ figures = record {
   whole-up = refl;
   root-exact = refl;
   root-under = refl;
+  root-0 = refl;
+  root-1 = refl;
+  root-3 = refl;
+  root-4 = refl;
+  half-word = refl;
+  past-half = refl;
+  last-square = refl;
+  under-last-square = refl;
+  word = refl;
 }

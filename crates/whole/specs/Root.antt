@@ -1,6 +1,6 @@
 -- The whole square root. That `rootOf` is the root, `IsRoot`, and nothing else is, are `root-is` and `root-unique` of proofs/Roots.antt. Assumes nothing.
 use mathlib.Core.Bool.{cond}
-use Prim.Native.Nat.{ℕ, zero, suc, _+_, _*_, _/_, _^_, _≤_, _<_}
+use Prim.Native.Nat.{ℕ, zero, suc, _+_, _*_, _/_, _≤_, _<_}
 use lib.Dec.{leb, eqb}
 
 -- r is the "whole square root of q": the greatest whole number whose square is not above q
@@ -20,9 +20,3 @@ digits (suc n) q = let r = digits n (q / 4) in cond (eqb q 0) 0 (next q r)
 -- the whole square root of q
 unfoldable pub rootOf : ℕ → ℕ
 rootOf q = digits q q
-
--- r is above the root of q, and fits half a word
-pub record AboveRoot (q r : ℕ) : Type 0 where
-  pub some : 0 < r
-  pub above : q < r * r
-  pub most : r ≤ 2 ^ 32

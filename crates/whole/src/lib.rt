@@ -1,12 +1,13 @@
 // The lesser, the greater and the difference of natural numbers, division down and up to a whole number, and the whole square root.
-// Every function answers for every input.
+// Every public function answers for every input.
 // Assumes nothing.
 
 ghost use mathlib.Core.Path.{_≡_};
-ghost use Prim.Native.Nat.{_-_, min, max};
+ghost use Prim.Native.Nat.{_+_, _*_, _-_, min, max};
 ghost use Rattle.whole.specs.Floor.{floorDiv};
 ghost use Rattle.whole.specs.Ceiling.{ceilDiv};
-ghost use Rattle.whole.specs.Root.{rootOf, AboveRoot};
+ghost use Rattle.whole.specs.Root.{rootOf};
+ghost use Rattle.whole.specs.LongHand.{number, Worked, Ready, Enough};
 
 pub fn lesser(a: u64, b: u64) -> u64
     ensures { λ r. ⌜ r ≡ min a b ⌝ }
@@ -51,34 +52,57 @@ pub fn ceil_div(a: u64, b: u64) -> u64
     }
 }
 
-// A number above the root, nearer where q is small, so that fewer halvings are made.
-fn above_root(q: u64) -> u64
-    ensures { λ r. ⌜ AboveRoot q r ⌝ }
-{
-    if q < 0x1_0000 {
-        0x100
-    } else if q < 0x100_0000 {
-        0x1000
-    } else if q < 0x1_0000_0000 {
-        0x1_0000
-    } else {
-        0x1_0000_0000
+// A square root worked in long hand: the root of the bits brought down so far, and the rest that its square leaves of them.
+struct LongHand {
+    root: u64,
+    rest: u64,
+}
+
+impl LongHand {
+    // One turn: a pair of bits is brought down to the rest, and the root gains a digit, 1 where the trial can be taken from the rest.
+    // The trial is what that 1 adds to the square: (2 × root + 1)² = 4 × root² + 4 × root + 1.
+    fn turn(self, pair: u64) -> LongHand
+        requires { ⌜ Ready self pair ⌝ }
+        ensures { λ r. ⌜ Worked (4 * number self + pair) r ⌝ }
+    {
+        let rest = 4 * self.rest + pair;
+        let trial = 4 * self.root + 1;
+        let digit = if trial <= rest { 1 } else { 0 };
+        LongHand {
+            root: 2 * self.root + digit,
+            rest: rest - digit * trial,
+        }
     }
 }
 
-// By halving: the root is lo or above it, and below hi.
+// A turn for each pair of bits, by the size of q: a pair before its first is 0 and changes nothing.
+fn turns(q: u64) -> u64
+    ensures { λ r. ⌜ Enough q r ⌝ }
+{
+    if q < 0x1_0000 {
+        8
+    } else if q < 0x100_0000 {
+        12
+    } else if q < 0x1000_0000 {
+        14
+    } else if q < 0x1_0000_0000 {
+        16
+    } else {
+        32
+    }
+}
+
+// By the digit method learnt at school, two bits a turn. The bits ahead stand at the top of a word, the next pair first.
 pub fn isqrt(q: u64) -> u64
     ensures { λ r. ⌜ r ≡ rootOf q ⌝ }
 {
-    let mut lo: u64 = 0;
-    let mut hi = above_root(q);
-    while lo + 1 < hi {
-        let mid = (lo + hi) / 2;
-        if mid * mid <= q {
-            lo = mid;
-        } else {
-            hi = mid;
-        }
+    let mut left = turns(q);
+    let mut ahead = q << (64 - 2 * left);
+    let mut so_far = LongHand { root: 0, rest: 0 };
+    while 0 < left {
+        so_far = so_far.turn(ahead >> 62);
+        ahead = ahead << 2;
+        left -= 1;
     }
-    lo
+    so_far.root
 }

@@ -1,61 +1,61 @@
--- `whole::isqrt` meets its contract. The invariant: the root is lo or above it, and below hi. The measure is the room between them.
--- Assumes nothing.
+-- `whole::isqrt` meets its contract. The invariant is `Underway`, the measure the pairs of bits left. Assumes nothing.
 use mathlib.Core.Path.{_≡_}
-use Prim.Native.Nat.{ℕ, _+_, _*_, _-_, _/_, _^_, _≤_, _<_}
-use native.Mathlib.Nat.{mul-le-mul}
+use Prim.Native.Nat.{ℕ, _+_, _*_, _-_, _/_, _%_, _^_, _≤_, _<_}
+use native.Mathlib.Nat.{mul-le-mul-left}
 use native.Mathlib.Omega.{arith}
+use lib.Pow.{pow-add, pow-mono, shl-exact}
+use Rattle.whole.specs.declared.LongHand.{LongHand}
 use Rattle.whole.specs.Root.{rootOf}
-use Rattle.whole.proofs.Roots.{root-unique}
+use Rattle.whole.specs.LongHand.{number, Worked, Enough, Underway}
+use Rattle.whole.proofs.Roots.{sq-le, root-unique}
 use Rattle.whole.proofs.isqrt.Statement.{statement}
 use Rattle.whole.proofs.isqrt.Tie as tie
 
-record Between (q lo hi : ℕ) : Type 0 where
-  low : lo * lo ≤ q
-  high : q < hi * hi
-  apart : lo < hi
-  most : hi ≤ 2 ^ 32
+-- nothing is taken yet
+started : (q n : ℕ) → Enough q n → Underway q n (q * 2 ^ (64 - 2 * n) % 2 ^ 64) (record { root = 0; rest = 0 })
+started q n e = omega (arith, shl-exact (2 * n) (64 - 2 * n) 64 (e .all) (omega arith))
 
-middle-fits : (q lo hi : ℕ) → Between q lo hi → lo + 1 < hi → (lo + hi) / 2 * ((lo + hi) / 2) < 2 ^ 64
-middle-fits q lo hi b h = let m : (lo + hi) / 2 ≤ 2 ^ 32 - 1 = omega arith in omega (arith, mul-le-mul m m)
+module _ (q n ahead : ℕ) (h : LongHand) (u : Underway q n ahead h) where
+  -- the number so far is no higher than q, and its root half a word
+  no-higher : number h ≤ q
+  no-higher = omega (arith, mul-le-mul-left q (pow-mono {i = 64 - 2 * n} {j = 64} (omega arith)))
 
-closed : (q lo hi : ℕ) → Between q lo hi → hi ≤ lo + 1 → lo ≡ rootOf q
-closed q lo hi b h = root-unique q lo (record { low = b .low; high = omega (arith, mul-le-mul h h) })
+  half : q < 2 ^ 64 → h .root < 2 ^ 32
+  half fits = omega (arith, sq-le (h .root) (2 ^ 32 - 1) (omega (arith, no-higher)))
+
+  -- a pair is brought down
+  turned : (r : LongHand) → 0 < n → Worked (4 * number h + ahead / 2 ^ 62) r → Underway q (n - 1) (ahead * 2 ^ 2 % 2 ^ 64) r
+  turned r some w =
+      let e : 64 - 2 * (n - 1) ≡ 64 - 2 * n + 2 = omega arith in
+      let up : q * 2 ^ (64 - 2 * (n - 1)) ≡ 4 * (q * 2 ^ (64 - 2 * n)) = rw (e, pow-add 2 (64 - 2 * n) 2) (omega arith) in
+      omega arith
+
+-- none is left
+closed : (q ahead : ℕ) (h : LongHand) → Underway q 0 ahead h → h .root ≡ rootOf q
+closed q ahead h u = root-unique q (h .root) (omega arith)
 
 abbrev Inv-loop : tie.InvT-loop
-Inv-loop q lo₀ hi₀ lo hi = Between q lo hi
+Inv-loop q left₀ ahead₀ so-far₀ left ahead so-far = Underway q left ahead so-far
 
 abbrev μ-loop : tie.MeasureT-loop
-μ-loop q lo₀ hi₀ lo hi = hi - lo
-
-above-root-requires : tie.Need-above-root-requires Inv-loop μ-loop
-above-root-requires c κs = tt
+μ-loop q left₀ ahead₀ so-far₀ left ahead so-far = left
 
 loop-holds : tie.Need-loop-holds Inv-loop μ-loop
-loop-holds c = omega arith
+loop-holds c = started _ (c .turns .result) (c .turns .ensures)
 
-add-loop : tie.Need-add-loop Inv-loop μ-loop
-add-loop c = omega arith
-
-add-mid : tie.Need-add-mid Inv-loop μ-loop
-add-mid c = omega arith
-
-mul-if1 : tie.Need-mul-if1 Inv-loop μ-loop
-mul-if1 c = let l = c .before .loop in record { fits = middle-fits _ (l .lo) (l .hi) (l .inv) (c .loop-test .taken) }
-
-loop-less : tie.Need-loop-less Inv-loop μ-loop
-loop-less c = omega arith
+turn-requires : tie.Need-turn-requires Inv-loop μ-loop
+turn-requires c κs =
+    let l = c .before .loop in
+    record { small = l .inv .small; half = half _ (l .left) (l .ahead) (l .so-far) (l .inv) (omega arith); bits = omega arith }
 
 loop-again : tie.Need-loop-again Inv-loop μ-loop
-loop-again c = omega arith
-
-loop-less-2 : tie.Need-loop-less-2 Inv-loop μ-loop
-loop-less-2 c = omega arith
-
-loop-again-2 : tie.Need-loop-again-2 Inv-loop μ-loop
-loop-again-2 c = omega arith
+loop-again c = let l = c .before .before .loop in turned _ (l .left) (l .ahead) (l .so-far) (l .inv) (c .turn .result) (omega arith) (c .turn .ensures)
 
 returns : tie.Need-returns Inv-loop μ-loop
-returns c = let l = c .before .loop in closed _ (l .lo) (l .hi) (l .inv) (c .loop-test .left)
+returns c =
+    let l = c .before .loop in
+    let e : l .left ≡ 0 = omega arith in
+    closed _ (l .ahead) (l .so-far) (rw e at (l .inv))
 
 pub isqrt-spec : {M : Type 1} → statement M
 isqrt-spec =
@@ -63,13 +63,13 @@ isqrt-spec =
     (tie.spec
     Inv-loop
     μ-loop
-    above-root-requires
+    (λ c κs. tt)
+    (λ c. omega arith)
+    (λ c. omega arith)
+    (λ c. omega arith)
     loop-holds
-    add-loop
-    add-mid
-    mul-if1
-    loop-less
+    turn-requires
+    (λ c. omega arith)
+    (λ c. omega arith)
     loop-again
-    loop-less-2
-    loop-again-2
     returns)
