@@ -1,7 +1,8 @@
 /*
  * plain.c - the rules of documents 01 and 02 in plain C, as fast as the direct way
  * is: one walk finds the stop and every target's location, a second one is made
- * only where a penalty stands or is called, numbers are 64 bits wide.  second/
+ * only where a penalty stands or is called, averages come of running totals, numbers
+ * are 64 bits wide.  second/
  * says each rule's phrase; here they stand without it.
  *
  * Its parts stand in files of their own, each of which uses those before it; this
@@ -34,6 +35,7 @@ typedef struct {
     uint32_t start[RECORDS];
     int16_t grade[RECORDS];
     uint16_t curve[RECORDS];
+    int64_t grade_total[RECORDS], curve_total[RECORDS]; /* x feet, of the records before */
 } profile_read;
 
 typedef struct {

@@ -22,7 +22,7 @@
  *    sessions may run at the same time, as nothing is kept outside of what is lent;
  *  - floating-point exceptions are masked in the processor's MXCSR register, as they are by default. Its rounding mode, and
  *    whether denormals are taken as zero, change no answer;
- *  - the stack is aligned to 16 bytes at the call, as every compiler for x86-64 Linux does, and has 4,096 bytes left.
+ *  - the stack is aligned to 16 bytes at the call, as every compiler for x86-64 Linux does, and has 8,192 bytes left.
  * Any bytes and any lengths are allowed: no content makes a call undefined.
  *
  * What a call leaves behind, beside what it writes: MXCSR's exception flags, which stay set once a reading has set them.
@@ -39,8 +39,8 @@ extern "C" {
 #endif
 
 /* The version of this header, major * 1,000,000 + minor * 1,000 + patch. */
-#define BUONGILACH_VERSION_MAJOR 4
-#define BUONGILACH_VERSION_MINOR 1
+#define BUONGILACH_VERSION_MAJOR 5
+#define BUONGILACH_VERSION_MINOR 0
 #define BUONGILACH_VERSION_PATCH 0
 #define BUONGILACH_VERSION (BUONGILACH_VERSION_MAJOR * 1000000 + BUONGILACH_VERSION_MINOR * 1000 + BUONGILACH_VERSION_PATCH)
 

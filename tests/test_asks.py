@@ -62,10 +62,16 @@ class Asks(unittest.TestCase):
         self.assertEqual(found["outer"][1], {"in::ner", "memset"})
 
     def test_no_bound(self):
-        for line in ("call   *%rax", "notrack call *%rax", "call   0 <outer>", "sub    %rax,%rsp", "mov    %rax,%rsp", "sub    $0x1000,%rsp"):
+        for line in ("call   *%rax", "notrack call *%rax", "call   0 <outer>", "sub    %rax,%rsp", "mov    %rax,%rsp", "sub    $0x1001,%rsp",
+                     "cmp    %r11,%rsp"):
             with self.subTest(line=line):
                 with self.assertRaises(asks.NoBound):
                     asks.functions(TEXT.replace("sub    $0x100,%rsp", line))
+
+    def test_pages(self):
+        # a frame of 4,352 bytes: a page, touched, and the rest
+        pages = TEXT.replace("sub    $0x100,%rsp", "sub    $0x1000,%rsp\n   a:\tmovq   $0x0,(%rsp)\n  12:\tsub    $0x100,%rsp")
+        self.assertEqual(asks.functions(pages)["outer"][0], 8 + 16 + 4096 + 256)
 
     def test_recursion(self):
         found = asks.functions(TEXT.replace("\tmemset-0x4", "\t.text.outer-0x4"))

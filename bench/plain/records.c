@@ -39,6 +39,14 @@ static int read_consist(const uint8_t *bytes, size_t count, plain_consist *train
     return train->weight < 10 * train->cars ? 5 : 0;
 }
 
+/* The totals of grade and curvature x feet up to record i's start. */
+static void add_totals(profile_read *profile, int i)
+{
+    int64_t feet = i > 0 ? profile->start[i] - profile->start[i - 1] : 0;
+    profile->grade_total[i] = i > 0 ? profile->grade_total[i - 1] + profile->grade[i - 1] * feet : 0;
+    profile->curve_total[i] = i > 0 ? profile->curve_total[i - 1] + profile->curve[i - 1] * feet : 0;
+}
+
 static int read_profile(const uint8_t *bytes, size_t count, profile_read *profile)
 {
     if (count % PROFILE_BYTES != 0 || count < 2 * PROFILE_BYTES || count > RECORDS * PROFILE_BYTES)
@@ -59,6 +67,7 @@ static int read_profile(const uint8_t *bytes, size_t count, profile_read *profil
         profile->start[i] = start;
         profile->grade[i] = (int16_t)grade;
         profile->curve[i] = (uint16_t)curve;
+        add_totals(profile, i);
     }
     return profile->grade[records - 1] != 0 || profile->curve[records - 1] != 0 ? 6 : 0;
 }

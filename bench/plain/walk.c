@@ -2,20 +2,24 @@
  * walk.c - the walk along a brake curve, and which targets call.
  */
 
-static void averages(const profile_read *profile, int64_t head, int64_t length, int64_t *grade,
-                     int64_t *curve)
+/* A place on the profile: its record, and the totals up to it. */
+typedef struct {
+    int record;
+    int64_t grade, curve;
+} place;
+
+/* To a location, from the place that was last there. */
+static void move(const profile_read *profile, int64_t location, place *to)
 {
-    int64_t grade_feet = 0, curve_feet = 0;
-    for (int i = 0; i + 1 < profile->records; i++) {
-        int64_t from = greatest(profile->start[i], head - length);
-        int64_t to = least(profile->start[i + 1], head);
-        if (to > from) {
-            grade_feet += profile->grade[i] * (to - from);
-            curve_feet += profile->curve[i] * (to - from);
-        }
-    }
-    *grade = down(grade_feet, length);
-    *curve = curve_feet / length;
+    int k = to->record;
+    while (k > 0 && profile->start[k] > location)
+        k--;
+    while (k + 1 < profile->records && profile->start[k + 1] <= location)
+        k++;
+    int64_t feet = greatest(location - profile->start[k], 0);
+    to->record = k;
+    to->grade = profile->grade_total[k] + profile->grade[k] * feet;
+    to->curve = profile->curve_total[k] + profile->curve[k] * feet;
 }
 
 static brake_curve service_curve(const plain_consist *train, const plain_brakes *brakes)
@@ -63,6 +67,7 @@ static void predict(const plain_consist *train, const brake_curve *by, const sam
                     const profile_read *profile, const targets_read *targets, prediction *found)
 {
     int64_t head = sample->head, q = sample->speed * sample->speed, t = 0;
+    place front = { 0, 0, 0 }, rear = { 0, 0, 0 };
 
     for (int i = 0; i < targets->records; i++)
         found->location[i] = NO_STOP;
@@ -71,9 +76,11 @@ static void predict(const plain_consist *train, const brake_curve *by, const sam
             found->location[i] = marked(found->location[i], targets->speed[i], head, q);
         if (q <= 0 || step == STEPS)
             break;
-        int64_t s = root(q), grade, curve;
-        averages(profile, head, train->length, &grade, &curve);
-        q -= loss(train, brake_force(train, by, t), s, q, grade, curve);
+        int64_t s = root(q);
+        move(profile, head, &front);
+        move(profile, head - train->length, &rear);
+        q -= loss(train, brake_force(train, by, t), s, q, down(front.grade - rear.grade, train->length),
+                  (front.curve - rear.curve) / train->length);
         t += 12000000 / (11 * s);
         head += STEP_FEET;
     }

@@ -18,6 +18,7 @@ use Rattle.targets.specs.Targets.{most, speedsIn}
 use Rattle.decision.specs.declared.Decision.{Decision}
 use Rattle.decision.specs.Decision.{size, readDecision}
 use Rattle.walk.specs.declared.Prediction.{Prediction}
+use Rattle.track.specs.Totals.{totalsOf}
 use Rattle.step.specs.Curve.{penaltyCurve}
 use Rattle.walk.proofs.predict.{signature}
 use Rattle.judge.specs.Approach.{Approach, predictionOf}
@@ -180,9 +181,27 @@ walk-repeats-step w meets k =
     let curve = penaltyCurve (x .consist) (x .a) (x .b) in
     let speeds = speedsIn (l .targets) most in
     let r = x .track in
-    let given : ArgsD signature ([], tt) =
-    (x .consist, (curve, (r .count, (lend (r .starts), (lend (r .grades), (lend (r .curvatures), (x .head, (x .speed, (speeds, tt))))))))) in
-    let found = ap (λ (f : Prediction). f .stop) (meets ([], tt) given given asked) in
+    let totals = totalsOf r in
+    let given : ArgsD signature ([], tt) = (
+      x .consist,
+      (
+        curve,
+        (
+          r .count,
+          (
+            lend (r .starts),
+            (
+              lend (r .grades),
+              (
+                lend (r .curvatures),
+                (lend (totals .grades), (lend (totals .curvatures), (x .head, (x .speed, (speeds, tt))))),
+              ),
+            ),
+          ),
+        ),
+      ),
+    ) in
+    let found = ap (λ (f : Prediction). f .stop) (meets ([], tt) given given (asked, refl)) in
     let z : _≡_ {A = ℕ} 5032 5048 =
     sym (computed .stop) ∙ sym found ∙ k (x .consist) curve (x .track) (x .head) (x .speed) speeds asked ∙ computed .stop-again in
     omega arith

@@ -102,7 +102,7 @@ Walker = Consist → Curve → Track → ℕ → ℕ → List ℕ → Prediction
 abbrev pub MeetsPredict : Walker → Type 0
 MeetsPredict w =
     (κs : Lfts 1) (a : ArgsD signature κs) (x : AtExit ended κs) → predict-reads.Pre κs a →
-    let (c, (curve, (count, (starts, (grades, (curvatures, (head, (v, (speeds, _))))))))) = a in
+    let (c, (curve, (count, (starts, (grades, (curvatures, (_, (_, (head, (v, (speeds, _))))))))))) = a in
     predict-reads.Post κs a (w c curve (trackOf count (now starts) (now grades) (now curvatures)) head v speeds) x
 
 abbrev pub WalkRepeatsStep : Walker → Type 0

@@ -15,9 +15,13 @@ use Rattle.judge.specs.Emergency.{Emergency, emergencyStop, emergencyCallOf}
 use Rattle.judge.specs.Approach.{Approach, predictionOf, callOf}
 use Rattle.prediction.specs.declared.Outcome.{Outcome}
 
--- what the prediction of a sample reads, by the brake after it and the profile lent with it
+-- what the prediction of a sample reads, by the brake after it, over a track
+abbrev pub approachOver : Consist → Brake → Sample → Track → Approach
+approachOver c k m t = record { consist = c; a = k .a; b = k .b; track = t; head = m .head; speed = m .speed }
+
+-- over the profile lent with it
 abbrev pub approachOf : Consist → Brake → Sample → List ℕ → Approach
-approachOf c k m p = record { consist = c; a = k .a; b = k .b; track = layOf p; head = m .head; speed = m .speed }
+approachOf c k m p = approachOver c k m (layOf p)
 
 -- the same of emergency air, over a track
 abbrev pub emergencyOver : Consist → Brake → Sample → Track → Emergency
@@ -43,3 +47,7 @@ outcomeOf x e stood t = record {
   «emergency_stop» = behind (standing stood (callOf x t)) (emergencyStop e);
   «emergency_called» = behind (standing stood (callOf x t)) (emergencyCallOf e t);
 }
+
+-- the same of a sample, over a track
+abbrev pub outcomeOver : Consist → Brake → Sample → Track → (stood : ℕ) → (targets : List ℕ) → Outcome
+outcomeOver c k m t stood targets = outcomeOf (approachOver c k m t) (emergencyOver c k m t) stood targets

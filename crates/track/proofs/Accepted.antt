@@ -1,4 +1,4 @@
--- The track of an accepted profile: it has the profile's records, and it is gentle. Assumes nothing.
+-- The track of an accepted profile: it has the profile's records, it is gentle, and its totals are small. Assumes nothing.
 use mathlib.Core.Path.{_≡_, sym, ap, subst}
 use Prim.Native.Nat.{ℕ, _+_, _≤_, _<_}
 use native.Mathlib.Decide.{decLt}
@@ -12,7 +12,9 @@ use Rattle.profile.proofs.Sound.{past-last, judged-lawful, judged-sound}
 use Rattle.track.specs.Track.{layOf, at}
 use Rattle.track.specs.Rising.{Rising}
 use Rattle.track.specs.Gentle.{Gentle}
+use Rattle.track.specs.Totals.{Small}
 use Rattle.track.proofs.Lay.{nothing, lay-at, lay-past}
+use Rattle.track.proofs.Sizes.{grade-total-most, curvature-total-most}
 
 module _ (p : List ℕ) (n : ℕ) (h : judgeProfile p ≡ (Accepted, n)) where
   -- every place, past the last record too
@@ -43,3 +45,9 @@ module _ (p : List ℕ) (n : ℕ) (h : judgeProfile p ≡ (Accepted, n)) where
 
   pub lay-gentle : Gentle (layOf p)
   lay-gentle = record { grade = λ k. lay-ranged k .grade; curvature = λ k. lay-ranged k .curvature; rising = lay-rising }
+
+  pub lay-small : Small (layOf p)
+  lay-small = record {
+    grade = λ k l. omega (arith, grade-total-most (layOf p) lay-gentle k l, lay-ranged k .start);
+    curvature = λ k l. omega (arith, curvature-total-most (layOf p) lay-gentle k l, lay-ranged k .start);
+  }

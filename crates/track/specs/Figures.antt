@@ -5,6 +5,7 @@ use mathlib.Core.List.{List, [], _∷_}
 use lib.IntN.{pos, negsuc}
 use Rattle.track.specs.declared.Track.{Track}
 use Rattle.track.specs.Track.{layOf, gradeUnder, curvatureUnder}
+use Rattle.track.specs.Totals.{gradeTotal, curvatureTotal, gradeTo}
 
 -- 51 ft at 50 and 49 ft at -53; -53 is `negsuc 52`
 abbrev pub dip : Track
@@ -46,3 +47,22 @@ pub record Figures : Type 0 where
   -- no length
   pub no-length-grade : gradeUnder hill 70 0 ≡ pos 0
   pub no-length-curvature : curvatureUnder hill 70 0 ≡ 0
+  -- totals of no segment, of one, two and three
+  pub grade-total-0 : gradeTotal hill 0 ≡ pos 0
+  pub grade-total-1 : gradeTotal hill 1 ≡ pos 3000
+  pub grade-total-2 : gradeTotal hill 2 ≡ pos 5000
+  pub grade-total-3 : gradeTotal hill 3 ≡ pos 2000
+  pub curvature-total-0 : curvatureTotal hill 0 ≡ 0
+  pub curvature-total-1 : curvatureTotal hill 1 ≡ 0
+  pub curvature-total-2 : curvatureTotal hill 2 ≡ 1000
+  pub curvature-total-3 : curvatureTotal hill 3 ≡ 1210
+  -- at a location: before the first start, at it, inside a segment or at its end, at the last start, past it
+  pub grade-to-5 : gradeTo hill 5 ≡ pos 0
+  pub grade-to-10 : gradeTo hill 10 ≡ pos 0
+  pub grade-to-15 : gradeTo hill 15 ≡ pos 1500
+  pub grade-to-20 : gradeTo hill 20 ≡ pos 3000
+  pub grade-to-30 : gradeTo hill 30 ≡ pos 4000
+  pub grade-to-40 : gradeTo hill 40 ≡ pos 5000
+  pub grade-to-55 : gradeTo hill 55 ≡ pos 3500
+  pub grade-to-70 : gradeTo hill 70 ≡ pos 2000
+  pub grade-to-170 : gradeTo hill 170 ≡ pos 2000

@@ -1,13 +1,16 @@
-// A profile laid out as a track, and the average grade and curvature of the track under a train. Every public function answers for every input.
-// Assumes nothing.
+// A profile laid out as a track, its running totals, and the average grade and curvature of the track under a train.
+// `under_train` asks for a gentle track and that track's totals; the others answer for every input.
 use profile::Segment;
 ghost use mathlib.Core.Path.{_≡_};
-ghost use Prim.Native.Nat.{_-_, _/_, _<_, min, max};
+ghost use Prim.Native.Nat.{_-_, _/_, _<_, min};
+ghost use lib.ListN.{getD};
 ghost use lib.IntN.{pos};
 ghost use Rattle.whole.specs.Floor.{floorDiv};
 ghost use Rattle.profile.specs.Profile.{most};
-ghost use Rattle.track.specs.Track.{layOf, underOf};
-ghost use Rattle.track.specs.Steps.{trackOf, sumsUnder, Sized, Plus};
+ghost use Rattle.track.specs.Track.{layOf};
+ghost use Rattle.track.specs.Gentle.{Gentle};
+ghost use Rattle.track.specs.Totals.{totalsOf, AreTotals, holdingTo, foundOf};
+ghost use Rattle.track.specs.Steps.{trackOf, Sized, Plus, keptIn, Rises, From, reachedOf, Behind, averagesOf};
 
 // A profile laid out: record k at place k of each array.
 pub struct Track {
@@ -23,10 +26,29 @@ pub struct Under {
     pub curvature: u64,
 }
 
-// The sums of grade × feet and curvature × feet under a train.
+// What is found under a train: G and C, and the segments that its head and its rear are in.
+pub struct Found {
+    pub under: Under,
+    pub head_in: usize,
+    pub rear_in: usize,
+}
+
+// Running totals of grade × feet and curvature × feet: in place k those of a track's first k segments; past the last, zeros.
+pub struct Totals {
+    pub grades: [i64; Segment::MOST],
+    pub curvatures: [u64; Segment::MOST],
+}
+
+// A sum of grade × feet and one of curvature × feet.
 struct Sums {
     grade: i64,
     curvature: u64,
+}
+
+// The totals at a location, and the segment that it is in.
+struct Reached {
+    sums: Sums,
+    segment: usize,
 }
 
 // How many of n records a track holds.
@@ -71,20 +93,169 @@ fn segments(n: usize) -> usize
     whole::above(records(n) as u64, 1) as usize
 }
 
+// The feet from a location on to another; none where that is behind it.
+fn feet_between(from: u32, to: u32) -> u32
+    ensures { λ r. ⌜ r ≡ to - from ⌝ }
+{
+    whole::above(to as u64, from as u64) as u32
+}
+
+impl Sums {
+    // The totals in place k.
+    fn kept<'a>(
+        grade_totals: &'a [i64; Segment::MOST],
+        curvature_totals: &'a [u64; Segment::MOST],
+        k: usize,
+    ) -> Sums
+        requires { ⌜ k < most ⌝ }
+        ensures { λ r. ⌜ r ≡ keptIn (now («grade_totals» .entry)) (now («curvature_totals» .entry)) k ⌝ }
+    {
+        Sums {
+            grade: grade_totals[k],
+            curvature: curvature_totals[k],
+        }
+    }
+
+    // Some feet more.
+    fn plus(self, feet: u32, grade: i16, curvature: u16) -> Sums
+        requires { ⌜ Sized most self ⌝ }
+        ensures { λ r. ⌜ Plus self feet grade curvature r ⌝ }
+    {
+        Sums {
+            grade: self.grade + feet as i64 * grade as i64,
+            curvature: self.curvature + feet as u64 * curvature as u64,
+        }
+    }
+
+    // Some feet of segment k more.
+    fn along<'a>(
+        self,
+        feet: u32,
+        grades: &'a [i16; Segment::MOST],
+        curvatures: &'a [u16; Segment::MOST],
+        k: usize,
+    ) -> Sums
+        requires { ⌜ Sized most self × (k < most) ⌝ }
+        ensures { λ r. ⌜ Plus self feet (getD (now (grades .entry)) k (pos 0)) (getD (now (curvatures .entry)) k 0) r ⌝ }
+    {
+        self.plus(feet, grades[k], curvatures[k])
+    }
+}
+
+impl Totals {
+    // Of a track that is given by its fields, so that its arrays are lent and not copied.
+    pub fn summed<'a>(
+        count: usize,
+        starts: &'a [u32; Segment::MOST],
+        grades: &'a [i16; Segment::MOST],
+        curvatures: &'a [u16; Segment::MOST],
+    ) -> Totals
+        ensures { λ r. ⌜ r ≡ totalsOf (trackOf count (now (starts .entry)) (now (grades .entry)) (now (curvatures .entry))) ⌝ }
+    {
+        let mut totals = Totals {
+            grades: [0i64; Segment::MOST],
+            curvatures: [0u64; Segment::MOST],
+        };
+        let last = segments(count);
+        let mut sums = Sums {
+            grade: 0,
+            curvature: 0,
+        };
+        let mut k: usize = 0;
+        while k < last {
+            let next = k + 1;
+            let feet = feet_between(starts[k], starts[next]);
+            sums = sums.along(feet, grades, curvatures, k);
+            let grade = sums.grade;
+            totals.grades[next] = grade;
+            totals.curvatures[next] = sums.curvature;
+            k = next;
+        }
+        totals
+    }
+}
+
+// Of the records up to `from`, the one that holds at a location: the last that starts at or before it, or the first.
+fn back_from<'a>(starts: &'a [u32; Segment::MOST], location: u32, from: usize) -> usize
+    requires { ⌜ from < most ⌝ }
+    ensures { λ r. ⌜ r ≡ holdingTo (now (starts .entry)) location from ⌝ }
+{
+    let mut k = from;
+    while 0 < k {
+        if starts[k] <= location {
+            return k;
+        }
+        k -= 1;
+    }
+    k
+}
+
+// Of the records up to `last`, from one on that does not start past the location.
+fn on_from<'a>(starts: &'a [u32; Segment::MOST], last: usize, location: u32, from: usize) -> usize
+    requires { ⌜ From (now starts) last location from ⌝ }
+    ensures { λ r. ⌜ r ≡ holdingTo (now (starts .entry)) location last ⌝ }
+{
+    let mut k = from;
+    while k < last {
+        let next = k + 1;
+        if location < starts[next] {
+            return k;
+        }
+        k = next;
+    }
+    k
+}
+
+// Of the records up to `last`, looked for from `near` on: whatever `near` is, the answer is the same.
+fn segment_of<'a>(
+    starts: &'a [u32; Segment::MOST],
+    last: usize,
+    location: u32,
+    near: usize,
+) -> usize
+    requires { ⌜ Rises (now starts) last ⌝ }
+    ensures { λ r. ⌜ r ≡ holdingTo (now (starts .entry)) location last ⌝ }
+{
+    let from = whole::lesser(near as u64, last as u64) as usize;
+    let k = back_from(starts, location, from);
+    on_from(starts, last, location, k)
+}
+
+// The feet from a segment's start to a location; past the profile's end, none.
+fn feet_to(start: u32, end: u32, location: u32) -> u32
+    ensures { λ r. ⌜ r ≡ min location end - start ⌝ }
+{
+    feet_between(start, whole::lesser(location as u64, end as u64) as u32)
+}
+
+// The totals at a location, its segment looked for from `near` on.
+fn reached_at<'a>(
+    count: usize,
+    starts: &'a [u32; Segment::MOST],
+    grades: &'a [i16; Segment::MOST],
+    curvatures: &'a [u16; Segment::MOST],
+    grade_totals: &'a [i64; Segment::MOST],
+    curvature_totals: &'a [u64; Segment::MOST],
+    location: u32,
+    near: usize,
+) -> Reached
+    requires { ⌜ Gentle (trackOf count (now starts) (now grades) (now curvatures)) ⌝ }
+    requires { ⌜ AreTotals (trackOf count (now starts) (now grades) (now curvatures)) (now «grade_totals») (now «curvature_totals») ⌝ }
+    ensures { λ r. ⌜ r ≡ reachedOf (trackOf count (now (starts .entry)) (now (grades .entry)) (now (curvatures .entry))) location ⌝ }
+{
+    let last = segments(count);
+    let k = segment_of(starts, last, location, near);
+    let feet = feet_to(starts[k], starts[last], location);
+    let total = Sums::kept(grade_totals, curvature_totals, k);
+    let sums = total.along(feet, grades, curvatures, k);
+    Reached { sums, segment: k }
+}
+
 // Where the rear is; a train longer than where its head is begins at 0.
 fn rear_of(head: u32, length: u32) -> u32
     ensures { λ r. ⌜ r ≡ head - length ⌝ }
 {
-    whole::above(head as u64, length as u64) as u32
-}
-
-// The feet of a segment that lie under the train.
-fn feet_under(rear: u32, head: u32, from: u32, to: u32) -> u32
-    ensures { λ r. ⌜ r ≡ min head to - max rear from ⌝ }
-{
-    let first = whole::greater(rear as u64, from as u64);
-    let last = whole::lesser(head as u64, to as u64);
-    whole::above(last, first) as u32
+    feet_between(length, head)
 }
 
 // G: a sum over the train's length, down.
@@ -102,57 +273,10 @@ fn curvature_over(sum: u64, length: u32) -> u64
     sum / length as u64
 }
 
-impl Sums {
-    // A segment more.
-    fn plus(self, feet: u32, grade: i16, curvature: u16) -> Sums
-        requires { ⌜ Sized most self ⌝ }
-        ensures { λ r. ⌜ Plus self feet grade curvature r ⌝ }
-    {
-        Sums {
-            grade: self.grade + feet as i64 * grade as i64,
-            curvature: self.curvature + feet as u64 * curvature as u64,
-        }
-    }
-}
-
-// The sums over all segments. One that the train does not touch is passed by.
-fn sums_under<'a>(
-    count: usize,
-    starts: &'a [u32; Segment::MOST],
-    grades: &'a [i16; Segment::MOST],
-    curvatures: &'a [u16; Segment::MOST],
-    rear: u32,
-    head: u32,
-) -> Sums
-    ensures { λ r. ⌜ r ≡ sumsUnder (trackOf count (now (starts .entry)) (now (grades .entry)) (now (curvatures .entry))) rear head ⌝ }
-{
-    let n = segments(count);
-    let mut sums = Sums {
-        grade: 0,
-        curvature: 0,
-    };
-    let mut k: usize = 0;
-    while k < n {
-        let next = k + 1;
-        let feet = feet_under(rear, head, starts[k], starts[next]);
-        if 0 < feet {
-            sums = sums.plus(feet, grades[k], curvatures[k]);
-        }
-        k = next;
-    }
-    sums
-}
-
-// G and C. A track is given by its fields, so that its arrays are lent and not copied.
-pub fn under_train<'a>(
-    count: usize,
-    starts: &'a [u32; Segment::MOST],
-    grades: &'a [i16; Segment::MOST],
-    curvatures: &'a [u16; Segment::MOST],
-    head: u32,
-    length: u32,
-) -> Under
-    ensures { λ r. ⌜ r ≡ underOf (trackOf count (now (starts .entry)) (now (grades .entry)) (now (curvatures .entry))) head length ⌝ }
+// What the totals gain from rear to head, over the train's length.
+fn averages(rear: Sums, head: Sums, length: u32) -> Under
+    requires { ⌜ Behind rear head ⌝ }
+    ensures { λ r. ⌜ r ≡ averagesOf rear head length ⌝ }
 {
     if length == 0 {
         return Under {
@@ -160,10 +284,56 @@ pub fn under_train<'a>(
             curvature: 0,
         };
     }
-    let rear = rear_of(head, length);
-    let sums = sums_under(count, starts, grades, curvatures, rear, head);
     Under {
-        grade: grade_over(sums.grade, length),
-        curvature: curvature_over(sums.curvature, length),
+        grade: grade_over(head.grade - rear.grade, length),
+        curvature: curvature_over(head.curvature - rear.curvature, length),
+    }
+}
+
+// G and C, by the totals that `summed` gives of this track; `head_near` and `rear_near` are where the segments are looked for first.
+pub fn under_train<'a>(
+    count: usize,
+    starts: &'a [u32; Segment::MOST],
+    grades: &'a [i16; Segment::MOST],
+    curvatures: &'a [u16; Segment::MOST],
+    grade_totals: &'a [i64; Segment::MOST],
+    curvature_totals: &'a [u64; Segment::MOST],
+    head: u32,
+    length: u32,
+    head_near: usize,
+    rear_near: usize,
+) -> Found
+    requires { ⌜ Gentle (trackOf count (now starts) (now grades) (now curvatures)) ⌝ }
+    requires { ⌜ AreTotals (trackOf count (now starts) (now grades) (now curvatures)) (now «grade_totals») (now «curvature_totals») ⌝ }
+    ensures { λ r. ⌜ r ≡ foundOf (trackOf count (now (starts .entry)) (now (grades .entry)) (now (curvatures .entry))) head length ⌝ }
+{
+    let at_head = reached_at(
+        count,
+        starts,
+        grades,
+        curvatures,
+        grade_totals,
+        curvature_totals,
+        head,
+        head_near,
+    );
+    let rear = rear_of(head, length);
+    let at_rear = reached_at(
+        count,
+        starts,
+        grades,
+        curvatures,
+        grade_totals,
+        curvature_totals,
+        rear,
+        rear_near,
+    );
+    let before = at_rear.sums;
+    let after = at_head.sums;
+    let under = averages(before, after, length);
+    Found {
+        under,
+        head_in: at_head.segment,
+        rear_in: at_rear.segment,
     }
 }

@@ -9,6 +9,7 @@ ghost use mathlib.Core.Path.{_≡_};
 ghost use mathlib.Core.Bool.{_&&_};
 ghost use Prim.Native.Nat.{_*_};
 ghost use lib.Dec.{leb, ltb};
+ghost use Rattle.track.specs.Totals.{AreTotals};
 ghost use Rattle.track.specs.Steps.{trackOf};
 ghost use Rattle.step.specs.Curve.{forceAt};
 ghost use Rattle.step.specs.Step.{groundOf};
@@ -144,17 +145,23 @@ pub fn predict<'a>(
     starts: &'a [u32; Segment::MOST],
     grades: &'a [i16; Segment::MOST],
     curvatures: &'a [u16; Segment::MOST],
+    grade_totals: &'a [i64; Segment::MOST],
+    curvature_totals: &'a [u64; Segment::MOST],
     head: u32,
     speed: u16,
     speeds: [u16; Target::MOST],
 ) -> Prediction
     requires { ⌜ Walkable c curve (trackOf count (now starts) (now grades) (now curvatures)) head speed ⌝ }
+    requires { ⌜ AreTotals (trackOf count (now starts) (now grades) (now curvatures)) (now «grade_totals») (now «curvature_totals») ⌝ }
     ensures { λ r. ⌜ r ≡ predictOf c (forceAt (c .rated) curve) (groundOf (trackOf count (now (starts .entry)) (now (grades .entry)) (now (curvatures .entry))) (c .length)) head speed speeds ⌝ }
 {
     let length = c.length as u32;
     let mut run = started(head, speed);
     let mut arrivals = [record::NO_STOP; Target::MOST];
     let mut band = quiet_band(arrivals, speeds);
+    // the segments of the last step, where those of the next are looked for
+    let mut head_in: usize = 0;
+    let mut rear_in: usize = 0;
     let mut n: u32 = 0;
     loop {
         if !lies_in(band, run.q) {
@@ -165,8 +172,22 @@ pub fn predict<'a>(
         if (run.q == 0) | (n == STEPS_MOST) {
             return ended(run, arrivals);
         }
-        let u = track::under_train(count, starts, grades, curvatures, run.head, length);
-        run = run.stepped(c, curve, u);
+        let found = track::under_train(
+            count,
+            starts,
+            grades,
+            curvatures,
+            grade_totals,
+            curvature_totals,
+            run.head,
+            length,
+            head_in,
+            rear_in,
+        );
+        head_in = found.head_in;
+        rear_in = found.rear_in;
+        let under = found.under;
+        run = run.stepped(c, curve, under);
         n += 1;
     }
 }

@@ -22,7 +22,9 @@ use Rattle.prediction.proofs.stop_in_emergency.Statement.{statement}
 use Rattle.prediction.proofs.stop_in_emergency.Tie as tie
 
 predict-requires : tie.Need-predict-requires
-predict-requires c κs = rw (c .emergency .ensures, c .before .in-emergency .ensures) (c .before .before .pre)
+predict-requires c κs =
+    let p = c .before .before .pre in
+    (rw (c .emergency .ensures, c .before .in-emergency .ensures) (p .0), p .1)
 
 -- from the air, the curve and the walk, by the calls
 together : (c : Consist) (k : Brake) (m : Sample) (t : Track) (air : Air) (curve : Curve) (speeds : List ℕ) (found : Prediction)

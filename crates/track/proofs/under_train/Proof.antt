@@ -1,66 +1,67 @@
--- `track::under_train` meets its contract. Assumes nothing.
-use mathlib.Core.Path.{_≡_, refl, sym, ap, ap₂, _∙_}
-use Prim.Native.Nat.{ℕ, _-_, _/_}
-use native.Mathlib.Nat.{div-zero}
-use lib.IntN.{ℤ, pos, negsuc}
-use mir.Syntax.{w64}
-use mir.Facts.{toZ-ofZ}
-use borrow.Author.Needs.{needs, sfits-of}
-use Rattle.whole.specs.Floor.{floorDiv}
+-- `track::under_train` meets its contract: the scanned sums are the differences of the totals at head and rear. Assumes nothing.
+use mathlib.Core.Path.{_≡_, sym, ap, subst₂, _∙_}
+use Prim.Native.Nat.{ℕ, _-_, _^_, _<_}
+use native.Mathlib.Omega.{arith}
+use borrow.Author.Needs.{needs}
 use Rattle.track.specs.declared.Track.{Track}
-use Rattle.track.specs.declared.Sums.{Sums}
+use Rattle.track.specs.declared.Under.{Under}
+use Rattle.track.specs.declared.Reached.{Reached}
 use Rattle.track.specs.Track.{gradeUnder, curvatureUnder, underOf}
-use Rattle.track.specs.Steps.{sumsUnder}
+use Rattle.track.specs.Gentle.{Gentle}
+use Rattle.track.specs.Totals.{foundOf, Differences, Totalled}
+use Rattle.track.specs.Steps.{trackOf, reachedOf, Behind, averagesOf}
+use Rattle.track.proofs.Differences.{totalled}
+use Rattle.track.proofs.Sizes.{to-sized}
 use Rattle.track.proofs.under_train.Statement.{statement}
 use Rattle.track.proofs.under_train.Tie as tie
 
-over-zero : (z : ℤ) → pos 0 ≡ floorDiv z (pos 0)
-unfolding floorDiv
-over-zero (pos a) = refl
-over-zero (negsuc a) = refl
+-- ---- over plain values
 
-module _ (t : Track) (head length : ℕ) where
-  none : length ≡ 0 → record { grade = pos 0; curvature = 0 } ≡ underOf t head length
-  unfolding gradeUnder curvatureUnder
-  none e = rw e (ap₂ (λ (z : ℤ) (n : ℕ). record { grade = z; curvature = n }) (over-zero _) (sym (div-zero _)))
+module _ (t : Track) (gentle : Gentle t) (head length : ℕ) (fits : head < 2 ^ 32) where
+  abbrev rear : ℕ
+  rear = head - length
 
-  averages : (rear : ℕ) (s : Sums) (g : ℤ) (k : ℕ) → rear ≡ head - length → s ≡ sumsUnder t rear head → g ≡ floorDiv (s .grade) (pos length) → k ≡ s .curvature / length →
-      record { grade = g; curvature = k } ≡ underOf t head length
+  differ : Differences t rear head
+  unfolding Totalled
+  differ = totalled t rear head (gentle .rising) (omega arith)
+
+  behind : Behind (reachedOf t rear .sums) (reachedOf t head .sums)
+  behind = record { sized-rear = to-sized t gentle rear (omega arith); sized-head = to-sized t gentle head fits; rises = differ .rises }
+
+  averages-are : averagesOf (reachedOf t rear .sums) (reachedOf t head .sums) length ≡ underOf t head length
   unfolding gradeUnder curvatureUnder
-  averages rear s g k er es eg ek = rw (eg, ek, es, er)
+  averages-are = rw (differ .grade, differ .curvature)
+
+  together : (at-rear at-head : Reached) (u : Under) → at-rear ≡ reachedOf t rear → at-head ≡ reachedOf t head → u ≡ averagesOf (at-rear .sums) (at-head .sums) length
+      → record { under = u; «head_in» = at-head .segment; «rear_in» = at-rear .segment } ≡ foundOf t head length
+  together at-rear at-head u e f g = rw (g, e, f, averages-are)
+
+-- ---- where both totals are known
+
+module _ (c : tie.After-reached-at2) where
+  abbrev start : tie.Start
+  start = c .before .before .before
+
+  abbrev track : Track
+  track = let a = start .args in trackOf (a .count) (a .starts .now) (a .grades .now) (a .curvatures .now)
+
+  head-is : c .before .before .reached-at .result ≡ reachedOf track (start .args .head)
+  head-is = c .before .before .reached-at .ensures
+
+  rear-is : c .reached-at2 .result ≡ reachedOf track (start .args .head - start .args .length)
+  rear-is = c .reached-at2 .ensures ∙ ap (reachedOf track) (c .before .rear-of .ensures)
+
+averages-requires : tie.Need-averages-requires
+averages-requires c κs =
+    let r = c .before .before in
+    let a = start r .args in
+    subst₂ (λ (x y : Reached). Behind (x .sums) (y .sums)) (sym (rear-is r)) (sym (head-is r)) (behind (track r) (start r .pre .0) (a .head) (a .length) (omega arith))
 
 returns : tie.Need-returns
-returns c = none _ _ _ (c .if1 .taken)
-
-rear-of-requires : tie.Need-rear-of-requires
-rear-of-requires c κs = search needs
-
-sums-under-requires : tie.Need-sums-under-requires
-sums-under-requires c κs = search needs
-
-grade-over-requires : tie.Need-grade-over-requires
-grade-over-requires c κs = search needs
-
-curvature-over-requires : tie.Need-curvature-over-requires
-curvature-over-requires c κs = search needs
-
-returns-2 : tie.Need-returns-2
-returns-2 c =
-    let summed = c .before .before .before in
-    let a = summed .before .before .before .args in
-    let s = summed .sums-under in
-    let back = toZ-ofZ {w = w64} {z = s .result .grade} (record { sfits = c .before .before .struct-told .given .0 .1 }) in
-    averages _ (a .head) (a .length) _ (s .result) _ _ (summed .before .rear-of .ensures) (s .ensures)
-    (toZ-ofZ (sfits-of (c .before .grade-over .ok)) ∙ c .before .grade-over .ensures ∙ ap (λ (z : ℤ). floorDiv z (pos (a .length))) back)
-    (c .curvature-over .ensures)
+returns c =
+    let r = c .before .before .before in
+    let a = start r .args in
+    together (track r) (start r .pre .0) (a .head) (a .length) (omega arith) _ _ _ (rear-is r) (head-is r) (c .averages .ensures)
 
 pub under-train-spec : {M : Type 1} → statement M
-under-train-spec =
-    tie.close
-    (tie.spec
-    returns
-    rear-of-requires
-    sums-under-requires
-    grade-over-requires
-    curvature-over-requires
-    returns-2)
+under-train-spec = tie.close (tie.spec (λ c κs. search needs) (λ c κs. search needs) (λ c κs. search needs) averages-requires returns)

@@ -11,6 +11,7 @@ use lib.ListN.{length}
 use borrow.Author.Tests.{ltb-true, leb-true, eqb-false, not-false}
 use Rattle.consist.specs.declared.Consist.{Consist}
 use Rattle.track.specs.declared.Track.{Track}
+use Rattle.track.specs.declared.Found.{Found}
 use Rattle.track.specs.declared.Under.{Under}
 use Rattle.track.specs.Track.{underOf}
 use Rattle.track.specs.Steps.{trackOf}
@@ -29,12 +30,12 @@ use Rattle.walk.proofs.predict.Statement.{statement}
 use Rattle.walk.proofs.predict.Tie as tie
 
 abbrev Inv-loop : tie.InvT-loop
-Inv-loop c curve count starts grades curvatures head speed speeds length run₀ arrivals₀ band₀ n₀ run arrivals band n =
+Inv-loop c curve count starts grades curvatures grade-totals curvature-totals head speed speeds length run₀ arrivals₀ band₀ head-in₀ rear-in₀ n₀ run arrivals band head-in rear-in n =
     Walked c (forceAt (c .rated) curve) (groundOf (trackOf count starts grades curvatures) (c .length)) head speed speeds n run arrivals
     × Quiet speeds arrivals band
 
 abbrev μ-loop : tie.MeasureT-loop
-μ-loop c curve count starts grades curvatures head speed speeds length run₀ arrivals₀ band₀ n₀ run arrivals band n = stepsMost - n
+μ-loop c curve count starts grades curvatures grade-totals curvature-totals head speed speeds length run₀ arrivals₀ band₀ head-in₀ rear-in₀ n₀ run arrivals band head-in rear-in n = stepsMost - n
 
 carried : {r : Run} {speeds before arrivals arrivals′ : List ℕ} {band band′ : Band} → arrivals′ ≡ arrivals → band′ ≡ band
     → Marked r speeds before arrivals → Quiet speeds arrivals band → Marked r speeds before arrivals′ × Quiet speeds arrivals′ band′
@@ -74,7 +75,7 @@ module _ (c : tie.Joined1 Inv-loop μ-loop) where
   slow : here .loop .run .q ≤ squareMost
   slow =
       let i = here .loop .inv .0 in
-      under-bound (entry .args .speed) (here .loop .n) (here .loop .run .q) (entry .pre .speed) (i .steps) (i .square-most)
+      under-bound (entry .args .speed) (here .loop .n) (here .loop .run .q) (entry .pre .0 .speed) (i .steps) (i .square-most)
 
 eight : (c : tie.Start Inv-loop μ-loop) → length (c .args .speeds) ≡ most
 eight c = omega arith
@@ -138,45 +139,52 @@ returns : tie.Need-returns Inv-loop μ-loop
 returns c =
     let j = c .before .before .before in
     let e : c .ended .result ≡ endedWith (here j .loop .run) (j .if1 .arrivals) = c .ended .ensures in
-    e ∙ answer-ended (eight (entry j)) (here j .loop .inv .0) (marks j .0) (entry j .pre .head) (c .before .if2 .taken)
+    e ∙ answer-ended (eight (entry j)) (here j .loop .inv .0) (marks j .0) (entry j .pre .0 .head) (c .before .if2 .taken)
 
 under-train-requires : tie.Need-under-train-requires Inv-loop μ-loop
-under-train-requires c κs = tt
+under-train-requires c κs = let s = entry (joined c) in (s .pre .0 .track, s .pre .1)
+
+-- what is found under the train is what is under it
+under-is : (c : tie.After-under-train Inv-loop μ-loop) → let j = joined (c .before) in
+    c .under-train .result .under ≡ underOf (track j) (here j .loop .run .head) (entry j .args .c .length)
+under-is c = ap (λ (f : Found). f .under) (c .under-train .ensures)
 
 stepped-requires : tie.Need-stepped-requires Inv-loop μ-loop
 unfolding GentleAverages
 stepped-requires c κs =
-    let j = joined (c .before) in
-    let s = entry j in
+    let e = c .before .before in
+    let j = joined e in
+    let s = entry j .pre .0 in
     let r = here j .loop .run in
     let w = here j .loop .inv .0 in
-    let averaged = gentle-averages (track j) (r .head) (s .args .c .length) (s .pre .track) in
+    let averaged = gentle-averages (track j) (r .head) (entry j .args .c .length) (s .track) in
     record {
-      rated = s .pre .rated;
-      applied = record { curve = s .pre .curve; clock = omega (arith, w .clock-most, w .steps) };
-      grade = rw (c .under-train .ensures) (omega (arith, averaged .grade));
-      curvature = rw (c .under-train .ensures) (omega (arith, averaged .curvature));
-      head = omega (arith, w .head-is, w .steps, s .pre .head);
-      some = moves (c .before);
+      rated = s .rated;
+      applied = record { curve = s .curve; clock = omega (arith, w .clock-most, w .steps) };
+      grade = rw (under-is (c .before)) (omega (arith, averaged .grade));
+      curvature = rw (under-is (c .before)) (omega (arith, averaged .curvature));
+      head = omega (arith, w .head-is, w .steps, s .head);
+      some = moves e;
       slow = slow j;
     }
 
 add-n : tie.Need-add-n Inv-loop μ-loop
-add-n c = omega (arith, steps-left (c .before .before))
+add-n c = omega (arith, steps-left (c .before .before .before))
 
 loop-less : tie.Need-loop-less Inv-loop μ-loop
-loop-less c = omega (arith, steps-left (c .before .before))
+loop-less c = omega (arith, steps-left (c .before .before .before))
 
 loop-again : tie.Need-loop-again Inv-loop μ-loop
 loop-again c =
-    let e = c .before .before in
+    let found = c .before .before in
+    let e = found .before in
     let j = joined e in
-    let s = entry j in
-    let r = here j .loop .run in
-    let under : c .before .under-train .result ≡ underOf (track j) (r .head) (s .args .c .length) = c .before .under-train .ensures in (
-      rw (over-track (s .args .c) (force j) (track j) (s .args .c .length) r _ _ (c .stepped .ensures) under)
-          (walks-on (eight s) (here j .loop .inv .0) (marks j .0) (s .pre .head) (moves e) (steps-left e)
-          (gains (s .args .c) (force j) (groundOf (track j) (s .args .c .length)) (s .pre .limited) (gentle-no-steeper (track j) _ (s .pre .track)) r)),
+    let a = entry j .args in
+    let s = entry j .pre .0 in
+    let r = here j .loop .run in (
+      rw (over-track (a .c) (force j) (track j) (a .c .length) r _ _ (c .stepped .ensures) (under-is found))
+          (walks-on (eight (entry j)) (here j .loop .inv .0) (marks j .0) (s .head) (moves e) (steps-left e)
+          (gains (a .c) (force j) (groundOf (track j) (a .c .length)) (s .limited) (gentle-no-steeper (track j) _ (s .track)) r)),
       marks j .1,
     )
 
