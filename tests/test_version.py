@@ -28,6 +28,13 @@ class Version(unittest.TestCase):
         source = words("crates", "buongilach", "src", "lib.rt")
         self.assertEqual(int(re.search(r"const VERSION: u32 = ([\d_]+);", source)[1].replace("_", "")), self.number)
 
+    def test_wrong_programs(self):
+        source = words("crates", "buongilach", "src", "lib.rt")
+        for name in ("major_told_as_minor", "two_digits_each"):
+            old = re.search(r"^old: (.+)$", words("crates", "buongilach", "must-fail", name + ".edit"), re.M)[1]
+            self.assertEqual(int(old.replace("_", "")), self.number)
+            self.assertEqual(source.count(old), 1)
+
     def test_definition(self):
         spec = words("crates", "buongilach", "specs", "Version.antt")
         self.assertEqual([int(re.search(r"^%s = (\d+)$" % part, spec, re.M)[1])
