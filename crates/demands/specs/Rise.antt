@@ -6,10 +6,10 @@ use Prim.Native.Nat.{ℕ}
 use lib.IntN.{pos, negsuc}
 use Rattle.consist.specs.declared.Consist.{Consist}
 use Rattle.track.specs.declared.Track.{Track}
-use Rattle.walk.specs.Walk.{Arrival, at, never, locationOf}
+use Rattle.walk.specs.Walk.{at, never, locationOf}
 use Rattle.judge.specs.Judge.{isCalled}
-use Rattle.judge.specs.Approach.{Approach, force, ground, arrivalOf}
-use Rattle.laws.specs.Crossing.{crossingFor}
+use Rattle.judge.specs.Approach.{Approach, arrivalOf}
+use Rattle.demands.specs.Eleven.{crossingOf}
 
 -- the train of document 01's case, but for its rated brake force
 abbrev pub train : (rated : ℕ) → Consist
@@ -48,17 +48,13 @@ weak = approach 20000 rolling
 abbrev pub unbraked : (head speed : ℕ) → Approach
 unbraked = approach 0 level
 
--- document 01's first crossing
-abbrev pub crossing : Approach → ℕ → Arrival
-crossing x u = crossingFor (x .consist) (force x) (ground x) (x .head) (x .speed) u
-
 -- whether the penalty is called for a target
 abbrev pub called : Approach → (target u : ℕ) → Bool
 called x target u = isCalled (x .consist .offset) (x .head) (x .speed) target u (locationOf (arrivalOf x u))
 
 pub record RiseFigures : Type 0 where
   -- 25 mph before a target of 15 mph at 8,136: below it on the way up, above it on the way down, and then below it for good
-  pub dips : crossing (weak 5000 2500) 1500 ≡ at 6024
+  pub dips : crossingOf (weak 5000 2500) 1500 ≡ at 6024
   pub settles : arrivalOf (weak 5000 2500) 1500 ≡ at 7816
   pub stops : arrivalOf (weak 5000 2500) 0 ≡ at 8344
   -- the offset is 320: none at equality, and a foot further it is called
@@ -66,12 +62,12 @@ pub record RiseFigures : Type 0 where
   pub a-foot-further : called (weak 5001 2500) 8136 1500 ≡ true
   -- 8 mph on the way down, below three targets' speeds: nowhere above 19 mph, past 16 and 12
   pub nowhere-above : arrivalOf (weak 6400 800) 1900 ≡ at 6400
-  pub below-at-first : crossing (weak 6400 800) 1600 ≡ at 6400
+  pub below-at-first : crossingOf (weak 6400 800) 1600 ≡ at 6400
   pub rises : arrivalOf (weak 6400 800) 1600 ≡ at 7952
   pub first-not-called : called (weak 6400 800) 6900 1900 ≡ false
   pub second-called : called (weak 6400 800) 7000 1600 ≡ true
   -- unbraked at 50 mph: after 2,048 steps at some 32 mph, below 45
-  pub crossed : crossing (unbraked 5000 5000) 4500 ≡ at 14184
+  pub crossed : crossingOf (unbraked 5000 5000) 4500 ≡ at 14184
   pub no-stop : arrivalOf (unbraked 5000 5000) 0 ≡ never
   pub cut : arrivalOf (unbraked 5000 5000) 4500 ≡ never
   -- so a target of 90 mph is called for

@@ -14,6 +14,7 @@ use Rattle.track.specs.declared.Track.{Track}
 use Rattle.track.specs.declared.Found.{Found}
 use Rattle.track.specs.declared.Under.{Under}
 use Rattle.track.specs.Track.{underOf}
+use Rattle.track.specs.Totals.{foundOf}
 use Rattle.track.specs.Steps.{trackOf}
 use Rattle.track.specs.Gentle.{GentleAverages}
 use Rattle.track.proofs.Gentle.{gentle-averages}
@@ -147,7 +148,10 @@ under-train-requires c κs = let s = entry (joined c) in (s .pre .0 .track, s .p
 -- what is found under the train is what is under it
 under-is : (c : tie.After-under-train Inv-loop μ-loop) → let j = joined (c .before) in
     c .under-train .result .under ≡ underOf (track j) (here j .loop .run .head) (entry j .args .c .length)
-under-is c = ap (λ (f : Found). f .under) (c .under-train .ensures)
+under-is c =
+    let j = joined (c .before) in
+    let e : c .under-train .result ≡ foundOf (track j) (here j .loop .run .head) (entry j .args .c .length) = c .under-train .ensures in
+    ap (λ (f : Found). f .under) e
 
 stepped-requires : tie.Need-stepped-requires Inv-loop μ-loop
 unfolding GentleAverages
