@@ -15,6 +15,10 @@
  * first crossing in place of R-2's, so that a tool can count the samples that the
  * two answer otherwise (decision 120).
  *
+ * With -DSECOND_HUNDREDTHS the average grade and its force are document 01's, in
+ * hundredths of a percent, in place of R-11's, to the same end (decision 132).  Either
+ * switch stands by itself, and both may be given.
+ *
  * It takes the direct way everywhere: fields bit by bit, one walk for the stop,
  * one more for each target and one for emergency, each kept from its first head to
  * its last, the whole profile looked through at every step.  Each function is headed

@@ -3,7 +3,8 @@
  *
  * "01" is the document that gives the rules.  Every quantity is a whole number
  * in the units of 01: hundredths of a mph, hundredths of a psi, whole feet,
- * hundredths of a percent, hundredths of a degree, whole tons.
+ * hundredths of a percent, hundredths of a degree, whole tons.  The average grade
+ * of a walk's step alone is in ten-thousandths of a percent (02, R-11).
  */
 #ifndef SECOND_H
 #define SECOND_H

@@ -17,10 +17,21 @@ enum {
     SECOND_SQUARE_MOST = 10000 * 10000 + SECOND_STEPS * SECOND_STEP_GAIN   /* 587,555,072 */
 };
 
+/* "The average grade is to come back in ten-thousandths of a percent, still down, and
+ * the force takes 2,000 W G in place of 200,000 W G.  Profile records keep hundredths"
+ * (02, R-11).  SECOND_GRADE_UNITS of G are a hundredth, and each is SECOND_GRADE_FORCE
+ * millionths of a lb a ton. */
+#ifndef SECOND_HUNDREDTHS
+enum { SECOND_GRADE_UNITS = 100, SECOND_GRADE_FORCE = 2000 };
+#else
+enum { SECOND_GRADE_UNITS = 1, SECOND_GRADE_FORCE = 200000 };      /* document 01 alone */
+#endif
+
 /* ---------------------------------------------------------------- the walk */
 
 /* "Train from head minus length to head.  G and C are the sums of grade x feet
- * and curvature x feet under the train, over its length, each down." */
+ * and curvature x feet under the train, over its length, each down."  G's unit is
+ * taken on the sum, before the one division there is (decision 130). */
 void second_averages(const second_profile *profile, int64_t head, int64_t length,
                      int64_t *grade, int64_t *curve)
 {
@@ -34,7 +45,7 @@ void second_averages(const second_profile *profile, int64_t head, int64_t length
             curve_feet += profile->curve[i] * (to - from);
         }
     }
-    *grade = (int64_t)second_down(grade_feet, length);
+    *grade = (int64_t)second_down(SECOND_GRADE_UNITS * grade_feet, length);
     *curve = (int64_t)second_down(curve_feet, length);
 }
 
@@ -75,7 +86,8 @@ int64_t second_brake_force(const second_consist *train, int64_t cylinder)
 }
 
 /* "Opposing force in millionths of a lb: 1,000,000 F + 600,000 W +
- * 20,000,000 n + 100 W s + 7 N q + 200,000 W G + 8,000 W C." */
+ * 20,000,000 n + 100 W s + 7 N q + 200,000 W G + 8,000 W C", with "2,000 W G in
+ * place of 200,000 W G" (02, R-11). */
 second_wide second_opposing(const second_consist *train, int64_t force, int64_t s, int64_t q,
                             int64_t grade, int64_t curve)
 {
@@ -85,7 +97,7 @@ second_wide second_opposing(const second_consist *train, int64_t force, int64_t 
          + (second_wide)20000000 * train->axles
          + 100 * weight * s
          + (second_wide)7 * train->cars * q
-         + 200000 * weight * grade
+         + SECOND_GRADE_FORCE * weight * grade
          + 8000 * weight * curve;
 }
 

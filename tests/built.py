@@ -16,6 +16,8 @@ COMPILE = ["gcc", "-std=c11", "-Wall", "-Wextra", "-Werror"]
 CHECKED = ["-O1", "-g", "-fsanitize=undefined,address", "-fno-sanitize-recover=all", "-DSECOND_CHECKED"]
 # With the location for a target speed that document 01 has without R-2.
 FIRST_CROSSING = "-DSECOND_FIRST_CROSSING"
+# With the average grade that it has without R-11.
+HUNDREDTHS = "-DSECOND_HUNDREDTHS"
 
 
 @functools.cache

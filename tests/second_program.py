@@ -128,6 +128,12 @@ class Prediction(ctypes.Structure):
     _fields_ = [(name, ctypes.c_int64) for name in ("stop", "cause")]
 
 
+def held(state=0, a=9000, b=0, front=9000, rear=9000, equalization=0, **train):
+    """A session after an update that left its brakes so, charged unless it is told otherwise."""
+    return Session(open=1, begun=1, train=Consist(**dict(TRAIN, **train)), cause=1, brakes=Brakes(
+        state=state, hold=9000, a=a, b=b, equalization=equalization, last_front=front, last_rear=rear))
+
+
 def started(session):
     """The air that emergency starts from: A, B and equalization."""
     call = built.core().second_emergency_air

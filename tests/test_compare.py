@@ -5,8 +5,7 @@ import subprocess
 import tempfile
 import unittest
 
-from feed_texts import TRAIN
-from here import PYTHON, TOOLS, feeds, load
+from here import PYTHON, TOOLS, feeds
 
 COMPARE = os.path.join(TOOLS, "compare")
 
@@ -43,6 +42,7 @@ class Compare(unittest.TestCase):
         self.assertIn("compared 7 feeds, 7 lines", out)
         self.assertIn("no difference", out)
         self.assertNotIn("rises", out)
+        self.assertNotIn("finer", out)
 
     def test_difference_is_saved(self):
         first = 100
@@ -92,19 +92,8 @@ class Compare(unittest.TestCase):
         self.assertIn("cause 8, refusal 2,", out)
         self.assertIn("refusal 10, emergency called in state 0,", out)
         self.assertIn("emergency called in state 5, emergency cause 1 in state 0,", out)
-        self.assertIn("emergency cause 8 in state 5, a runaway\n", out)
+        self.assertIn("emergency cause 8 in state 5, a runaway, a slight descent\n", out)
         self.assertEqual(self.run_compare("299", "--", "true", "--", "true")[0], 0)
-
-    def test_what_rises_never_occurred(self):
-        tally = load("compare").Tally
-        named = {"above": "a rise", "below": "a rise of a train already below", "cut, below": "a cut walk below a target's speed"}
-        self.assertEqual(tally(2, None).missing()[-1], "a runaway")
-        self.assertEqual(tally(2, "true").missing()[-4:], ["a runaway", *named.values()])
-        for shown, name in named.items():
-            one = tally(2, "true")
-            one.rises[shown] += 1
-            self.assertNotIn(name, one.missing())
-            self.assertEqual(len(one.missing()), len(tally(2, "true").missing()) - 1)
 
     def test_emergency_is_counted(self):
         # On each of 3 feeds: a sample without emergency, one that calls it, two in which it stands, a refused one.
@@ -137,6 +126,17 @@ class Compare(unittest.TestCase):
         status, out, _ = self.run_compare("25", "--", *never, "--", *never)
         self.assertEqual(status, 0)
         self.assertIn("\nrunaways  0\n", out)
+
+    def test_slight_descents_are_counted(self):
+        # a program that accepts every sample, as every one of these is to be
+        always = "0 0 0 0 7\n0 0 0 0 0\n" * 40
+        data = [feeds.random_feed(seed, "grades") for seed in range(8)]
+        count = sum(feeds.slight_descents(one, always.encode()) for one in data)
+        self.assertGreater(count, 8)
+        program = [*PYTHON, "-c", "print(%r, end='')" % always]
+        status, out, _ = self.run_compare("8", "--kind", "grades", "--", *program, "--", *program)
+        self.assertEqual(status, 0, out)
+        self.assertIn("\nslight    %d\n" % count, out)
 
     def test_rises_are_counted(self):
         # Of three samples the second calls the penalty, by the first target.  By the first crossing it is not called, or a
@@ -179,51 +179,57 @@ class Compare(unittest.TestCase):
         self.assertEqual(status, 1)
         self.assertIn("line 1 of program 1: 0 0 1 1 7\nline 1 of program 2: 0 0 1 2 7\n", out)
 
+    def test_finer_averages_are_counted(self):
+        # Of two samples the second has the penalty; by hundredths it has a further stop, or the first has it already.
+        ours = "0 0 0 0 7\n0 0 0 0 0\n1 0 1 1 7\n1 0 0 0 7\n"
+        further = ours.replace("1 1 7", "1 1 16777215")
+        sooner = ours.replace("0 0 0 0 7", "0 0 1 2 9").replace("1 1 7", "1 2 7")
+        for others, samples, classes in ((ours, 0, (0, 0, 0)), (further, 1, (0, 3, 0)), (sooner, 2, (3, 0, 0)),
+                                         (ours.replace("1 0 0 0 7", "1 0 1 1 9"), 1, (0, 0, 3))):
+            program = self.saying(ours)
+            status, out, _ = self.run_compare("3", "--hundredths", self.saying(others), "--", program, "--", program)
+            self.assertEqual(status, 0, out)
+            self.assertIn("\nfiner     %d feeds, %d samples; not called:%d  nearer:%d  neither:%d\n"
+                          % (sum(classes), 3 * samples, *classes), out)
+            self.assertIn("program 3 0:3\n", out)
+
+    def test_hundredths_that_differ_otherwise(self):
+        program = self.saying("0 0 1 1 7\n0 0 0 0 7\n")
+        for said, line in (("0 0 1 1 6\n0 0 0 0 7\n", "0 0 1 1 6"), ("0 0 0 0 7\n0 0 0 0 0\n", "0 0 0 0 7"), ("x 8\n", "x 8"),
+                           ("", "(ended)")):
+            status, out, _ = self.run_compare("3", "--hundredths", self.saying(said), "--", program, "--", program)
+            self.assertEqual(status, 1)
+            self.assertIn("seed 0 (trip): the outputs differ;", out)
+            self.assertIn("line 1 of program 1: 0 0 1 1 7\nline 1 of program 3: %s\n" % line, out)
+
+    def test_both_earlier_rules(self):
+        ours, without = (self.saying(said) for said in ("0 0 1 1 7\n0 0 0 0 7\n", "0 0 0 0 7\n0 0 0 0 0\n"))
+        further = self.saying("0 0 1 1 9\n0 0 0 0 7\n")
+        for crossing, hundredths, wrong in ((without, further, None), (without, without, "4: 0 0 0 0 7"),
+                                            (further, further, "3: 0 0 1 1 9")):
+            # the options in the other order: it does not matter
+            status, out, _ = self.run_compare("2", "--kind", "undulating", "--hundredths", hundredths,
+                                              "--first-crossing", crossing, "--", ours, "--", ours)
+            self.assertEqual(status, 1 if wrong else 0, out)
+            self.assertLess(out.index("\nrises     "), out.index("\nfiner     "))
+            if wrong:
+                self.assertIn("line 1 of program 1: 0 0 1 1 7\nline 1 of program %s\n" % wrong, out)
+            else:
+                self.assertIn("\nrises     2 feeds, 2 samples;", out)
+                self.assertIn("\nfiner     2 feeds, 2 samples;", out)
+                self.assertIn("program 3 0:2; program 4 0:2\n", out)
+
     def test_command_line(self):
         for words in ((), ("5",), ("5", "--", "true"), ("x", "--", "true", "--", "true"),
                       ("5", "--", "true", "--"), ("0", "--", "true", "--", "true"),
                       ("5", "--kind", "none", "--", "true", "--", "true"),
                       ("5", "--first-crossing", "--", "true", "--", "true"),
                       ("5", "--first-crossing", "/nonexistent/program", "--", "true", "--", "true"),
+                      ("5", "--hundredths", "--", "true", "--", "true"),
+                      ("5", "--hundredths", "/nonexistent/program", "--", "true", "--", "true"),
                       ("5", "--", "/nonexistent/program", "--", "true")):
             with self.subTest(words=words):
                 self.assertEqual(self.run_compare(*words)[0], 2)
-
-
-class Rises(unittest.TestCase):
-    """What the count makes of a feed: a train at 20 mph, then above it, with targets of that speed and a hundredth less."""
-
-    FEED = feeds.make(TRAIN + "profile 0\nprofile 40000\ntarget 5000 speed 2000\ntarget 6000 speed 1999\n"
-                      "sample 0 head 5000 speed 20.0 front 90.0 rear 90.0\nsample 1 head 5000 speed 20.001 front 90.0 rear 90.0\n")
-    CUT = 16777215
-
-    def said(self, *causes, stop=7, state=0):
-        return "".join("%d %d %d %d %d\n%d %d 0 0 0\n" % (time, state, cause > 0, cause, stop, time, state)
-                       for time, cause in enumerate(causes)).encode()
-
-    def test_what_the_first_shows(self):
-        for causes, others, stop, want in (
-                ((1, 1), (0, 0), 7, (2, "below")), ((2, 2), (0, 2), 7, (1, "above")), ((0, 1), (0, 0), 7, (1, "above")),
-                ((1, 1), (2, 2), 7, (2, "below")), ((1, 1), (0, 0), self.CUT, (2, "cut, below")),
-                ((2, 2), (0, 0), self.CUT, (2, "cut, above")), ((1, 1), (1, 1), 7, (0, None)), ((), (), 7, (0, None))):
-            with self.subTest(causes=causes, others=others, stop=stop):
-                self.assertEqual(feeds.rise(self.FEED, self.said(*causes, stop=stop), self.said(*others, stop=stop)), want)
-
-    def test_what_no_rise_explains(self):
-        called, none = self.said(1, 1), self.said(0, 0)
-        for said, other in (
-                # a call less, an earlier target
-                (none, called), (self.said(2, 2), called),
-                # another stop, state, number of samples or refusal
-                (called, self.said(0, 0, stop=8)), (called, self.said(0, 0, state=1)), (called, self.said(0)), (called, b""),
-                (called, b"x 8\n" + self.said(0)), (b"gone", b"x 8\n"),
-                # emergency's line alone, the penalty's bit alone
-                (called, called.replace(b"1 0 0 0 0\n", b"1 0 1 1 0\n")), (called, called.replace(b"0 0 1 1", b"0 0 0 1")),
-                # a target and a sample that the feed has not
-                (self.said(3, 3), none), (self.said(0, 0, 1), self.said(0, 0, 0))):
-            with self.subTest(said=said, other=other):
-                self.assertEqual(feeds.rise(self.FEED, said, other)[1], feeds.UNLIKE)
-        self.assertEqual(feeds.rise(b"", called, none)[1], feeds.UNLIKE)
 
 
 if __name__ == "__main__":

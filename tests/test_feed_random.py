@@ -8,7 +8,7 @@ from here import feeds
 from second_program import run as second, told
 
 # Of the feeds of seeds 0 to 199; changes only when the generator is changed on purpose.
-DIGEST = "ce79245e3e7a717b467b13d12b649bb3eb35ccc9f5574b7fc15ba790babb1283"
+DIGEST = "093b439d6a6ac03a20c7f4ff39dc3ad53cdceea19aa8b4cd6c7347e55231ed1b"
 
 
 class Random(unittest.TestCase):
@@ -58,12 +58,13 @@ class Runaways(unittest.TestCase):
 
     def test_every_step_gains(self):
         # The greatest q of a walk is 587,555,072, its root 24,239, and the greatest cylinder pressure 5/2 of 2/7 of the set one.
+        # On -4 % or steeper no average is above -40,000.
         for seed in range(30):
             data = feeds.random_feed(seed, "runaway")
             train = feeds.consist_of(data)
             weight, force = train["weight"], train["rated"] * (train["set"] * 5 // 7 + 1) // 6400
             self.assertLess(1000000 * force + 600000 * weight + 20000000 * train["axles"] + 100 * weight * 24239
-                            + 7 * train["cars"] * 587555072 + 8000 * weight * 200, 200000 * weight * 400)
+                            + 7 * train["cars"] * 587555072 + 8000 * weight * 200, 2000 * weight * 40000)
             if seed % 3 == 0:
                 self.assertEqual([train[name] for name in ("cars", "axles", "weight", "rated")], [1, 2, 30000, 0])
 

@@ -2,7 +2,7 @@
 
 import unittest
 
-from built import FIRST_CROSSING
+from built import FIRST_CROSSING, HUNDREDTHS
 from here import example, examples, feeds
 from second_program import CASE, both, run, told
 
@@ -47,12 +47,25 @@ class Examples(unittest.TestCase):
                 if want or not name.startswith("trip-"):
                     self.assertEqual(lines, want)
 
+    def otherwise(self, build):
+        """Those that a build answers otherwise."""
+        names = examples() + ["figures/" + name for name in examples("figures")]
+        return [name for name in names if run(feeds.make(example(name)), build) != run(feeds.make(example(name)))]
+
     def test_where_the_first_crossing_answers_otherwise(self):
         # Those that show R-2 (02), and no other.
-        names = examples() + ["figures/" + name for name in examples("figures")]
-        other = [name for name in names if run(feeds.make(example(name)), FIRST_CROSSING) != run(feeds.make(example(name)))]
-        self.assertEqual(other, ["long-descent", "rolling-hills", "figures/cut-below-target", "figures/rise-from-below",
-                                 "figures/rise-past-target"])
+        self.assertEqual(self.otherwise(FIRST_CROSSING), ["long-descent", "rolling-hills", "figures/cut-below-target",
+                                                          "figures/rise-from-below", "figures/rise-past-target"])
+
+    def test_where_hundredths_answer_otherwise(self):
+        # R-11 (02).  A crest's average is -1 in either unit, and the train stops at the same step.
+        self.assertEqual(self.otherwise(HUNDREDTHS), ["rolling-hills", "trip", "figures/finer-grade",
+                                                      "figures/rise-past-target", "figures/trip-no-call"])
+
+    def test_finer_grade_in_hundredths(self):
+        # Document 01's average of -0.47 hundredths, down: the train rolls 16 ft further.
+        self.assertEqual(run(feeds.make(example("figures/finer-grade")), HUNDREDTHS).splitlines(),
+                         ["0 0 0 0 133", "0 0 0 0 0", "1 0 0 0 116", "1 0 0 0 0"])
 
 
 if __name__ == "__main__":

@@ -1,4 +1,4 @@
-"""Tests of the second program: R-5 of 02, emergency behind the penalty: its air, its curve, its stop and its call.
+"""Tests of the second program: R-5 of 02, emergency behind the penalty: its stop and its call.
 
 The train is that of 01's case on the level, and most walks start at head 5,000 with 10.00 mph.  The loss of a step is then
 (1,000,000 F + 1,400,000,000 + 100,000 s + 70 q) x 1,449 / 605,000,000, and F is 200,000 p / 6,400.
@@ -10,123 +10,23 @@ import random
 import unittest
 
 from built import core
-from second_program import Air, Brakes, CONSIST, Consist, Prediction, Profile, Sample, Session, TRAIN, Targets, started, whole
+from second_program import Prediction, Sample, TRAIN, Targets, held, started
+from second_walks import NONE, average, profile_of
 
-NONE = 16777215
-DOWN = -500                 # 5 % downhill: without brakes no train stops there
-
-
-def held(state=0, a=9000, b=0, front=9000, rear=9000, equalization=0, **train):
-    """A session after an update that left its brakes so, charged unless it is told otherwise."""
-    return Session(open=1, begun=1, train=Consist(**dict(TRAIN, **train)), cause=1, brakes=Brakes(
-        state=state, hold=9000, a=a, b=b, equalization=equalization, last_front=front, last_rear=rear))
+DOWN = ((0, -500), (60000, 0))      # 5 % downhill: without brakes no train stops there
+LEVEL = ((0, 0), (60000, 0))
 
 
-def ground(grade=0):
-    """The same grade throughout."""
-    profile = Profile(records=2)
-    profile.start[1], profile.grade[0] = 60000, grade
-    return profile
-
-
-def predicted(session, targets=(), speed=1000, head=5000, grade=0, call="second_predict_emergency"):
+def predicted(session, targets=(), speed=1000, head=5000, ground=LEVEL, call="second_predict_emergency"):
     """The stop and the cause of a prediction; a target is its location and speed."""
     lent = Targets(records=len(targets))
     for i, (location, allowed) in enumerate(targets):
         lent.location[i], lent.speed[i] = location, allowed
     function = getattr(core(), call)
     function.restype = Prediction
-    found = function(ctypes.byref(session), ctypes.byref(Sample(head=head, speed=speed)), ctypes.byref(ground(grade)),
+    found = function(ctypes.byref(session), ctypes.byref(Sample(head=head, speed=speed)), ctypes.byref(profile_of(ground)),
                      ctypes.byref(lent))
     return found.stop, found.cause
-
-
-class Starting(unittest.TestCase):
-    """ "Combine A and find equalization by the emergency rule, unless the state is 3 or 4." """
-
-    def test_charged(self):
-        # Nominal 9,000: (45,000 + 63,000) / 14 = 7,714.3, and 108,000 / 12.
-        self.assertEqual(started(held(0)), (9000, 0, 7714))
-
-    def test_applying_service(self):
-        # 01's figure: (35,000 + 10,000 + 63,000) / 14 = 7,714.3, then 98,000 / 12 = 8,166.7.  The
-        # 6,428 that the service falls to has no part in it.
-        self.assertEqual(started(held(1, 7000, 5000, equalization=6428)), (8166, 5000, 7714))
-
-    def test_holding_service(self):
-        # Front 8,500 and rear 7,000 make nominal 8,250: (42,500 + 2,494 + 57,750) / 14 = 7,338.9,
-        # then 100,250 / 12 = 8,354.2.
-        self.assertEqual(started(held(2, 8500, 1247, 8500, 7000, equalization=6428)), (8354, 1247, 7338))
-
-    def test_emergency_is_as_it_is(self):
-        # By the rule it would be (40,000 + 6,000 + 57,750) / 14 = 7,410 and 97,750 / 12 = 8,145.
-        self.assertEqual(started(held(3, 8000, 3000, 8500, 7000, equalization=7714)), (8000, 3000, 7714))
-        # (38,570 + 15,432 + 63,000) / 14 = 8,357 and 101,570 / 12 = 8,464.
-        self.assertEqual(started(held(4, 7714, 7716, equalization=7714)), (7714, 7716, 7714))
-        # Also where A is below it.
-        self.assertEqual(started(held(3, 6032, 6429, 6500, 0, equalization=6089)), (6032, 6429, 6089))
-
-    def test_charging(self):
-        # Front 9,000 and rear 8,001: half of 999 is 499, nominal 8,501.  (38,570 + 59,507) / 14 =
-        # 7,005.5, then 98,077 / 12 = 8,173.1.  The 7,714 of an emergency before has no part in it.
-        self.assertEqual(started(held(5, 7714, 0, 9000, 8001, equalization=7714)), (8173, 0, 7005))
-
-    def test_equalization_before_a_is_combined(self):
-        # From A combined, 8,166, it would be (40,830 + 10,000 + 63,000) / 14 = 8,130; from 8,354
-        # (41,770 + 2,494 + 57,750) / 14 = 7,286.
-        self.assertEqual(started(held(1, 7000, 5000))[2], 7714)
-        self.assertEqual(started(held(2, 8500, 1247, 8500, 7000))[2], 7338)
-
-    def test_nominal(self):
-        # A rear higher than the front makes no difference.
-        self.assertEqual(started(held(0, front=7000, rear=9000)), (9000, 0, 7714))
-        # 7,000 less half of 16,000 is not below 0: 35,000 / 14, and 35,000 / 12 = 2,916.7.
-        self.assertEqual(started(held(0, 7000, 0, 16000, 0, set=7000)), (2916, 0, 2500))
-
-    def test_a_below_equalization(self):
-        # Nominal 5,750: (32,140 + 12,858 + 40,250) / 14 = 6,089.1, then 72,390 / 12 = 6,032.5.
-        self.assertEqual(started(held(2, 6428, 6429, 6500, 0)), (6032, 6429, 6089))
-
-
-class Curve(unittest.TestCase):
-    """ "Drop is (A minus equalization) x t / 10,000, down, not past equalization and not below 0; p is B plus 6 drop." """
-
-    def cylinder(self, air, t):
-        p = core().second_emergency_cylinder(ctypes.byref(air), *whole(t))
-        # It is the one that a walk by this air takes.
-        self.assertEqual(core().second_air_cylinder(ctypes.byref(CONSIST), ctypes.byref(air), *whole(t)), p)
-        return p
-
-    def test_drop_and_cap(self):
-        # 9,000 - 7,714 = 1,286.
-        for t, drop in ((0, 0),
-                        (7, 0),                 # 0.90
-                        (8, 1),                 # 1.03
-                        (1090, 140),            # 140.17
-                        (5000, 643),
-                        (9999, 1285),           # 1,285.87
-                        (10000, 1286),
-                        (10008, 1286),          # 1,287.03, past equalization
-                        (2048 * 1090909, 1286)):
-            with self.subTest(t=t):
-                self.assertEqual(self.cylinder(Air(9000, 0, 7714, 1), t), 6 * drop)
-                self.assertEqual(self.cylinder(Air(9000, 1247, 7714, 1), t), 1247 + 6 * drop)
-
-    def test_not_below_zero(self):
-        # 6,032 is 57 below 6,089; and none above.
-        for t in (0, 1, 1090, 10000, 2048 * 1090909):
-            self.assertEqual(self.cylinder(Air(6032, 6429, 6089, 1), t), 6429)
-            self.assertEqual(self.cylinder(Air(7714, 7716, 7714, 1), t), 7716)
-
-    def test_greatest(self):
-        # No overflow: 11,000 over 0, at the longest clock.
-        self.assertEqual(self.cylinder(Air(11000, 9434, 0, 1), 2048 * 1090909), 9434 + 66000)
-
-    def test_penalty_keeps_its_own(self):
-        # 01's figure, and its cap: an equalization beside it has no part in the service curve.
-        for t, p in ((1090, 232), (10 ** 9, 6430)):
-            for air in (Air(9000), Air(9000, 0, 7714, 0)):
-                self.assertEqual(core().second_air_cylinder(ctypes.byref(CONSIST), ctypes.byref(air), *whole(t)), p)
 
 
 class Stop(unittest.TestCase):
@@ -212,8 +112,8 @@ class Stop(unittest.TestCase):
         self.assertEqual(predicted(held(2, 6428, 6429, 6500, 0)), (5048, 0))
 
     def test_no_step_and_no_stop(self):
-        self.assertEqual(predicted(held(0, rated=0), speed=0, grade=DOWN), (5000, 0))
-        self.assertEqual(predicted(held(0, rated=0), speed=1, grade=DOWN), (NONE, 0))
+        self.assertEqual(predicted(held(0, rated=0), speed=0, ground=DOWN), (5000, 0))
+        self.assertEqual(predicted(held(0, rated=0), speed=1, ground=DOWN), (NONE, 0))
 
     def test_nothing_says_that_it_stops_earlier(self):
         # Decision 110.  A 8,000, B 2,500, and nominal 1,000 by a front of 16,000 and a rear of 0: A is
@@ -226,7 +126,7 @@ class Stop(unittest.TestCase):
         self.assertLess(service, emergency)
         self.assertEqual(emergency, self.model(4000, 3916, 2500, 3714))
 
-    def model(self, speed, a, b, equalization, grade=0, **train):
+    def model(self, speed, a, b, equalization, ground=LEVEL, **train):
         """The stop once more, from the papers."""
         given = dict(TRAIN, **train)
         weight = given["weight"]
@@ -236,7 +136,7 @@ class Stop(unittest.TestCase):
             drop = max(0, min((a - equalization) * t // 10000, a - equalization))
             force = given["rated"] * (b + 6 * drop) // 6400
             q -= 1449 * (1000000 * force + 600000 * weight + 20000000 * given["axles"] + 100 * weight * s
-                         + 7 * given["cars"] * q + 200000 * weight * grade) // (605000 * weight)
+                         + 7 * given["cars"] * q + 2000 * weight * average(ground, head, 600)) // (605000 * weight)
             t += 12000000 // (11 * s)
             head += 16
         return head if q <= 0 else NONE
@@ -250,16 +150,19 @@ class Stop(unittest.TestCase):
             equalization = draw.randint(3000, 9000)
             train = {"set": draw.randint(7000, 11000), "weight": draw.randint(100, 30000),
                      "rated": draw.choice((20000, 200000, draw.randint(0, 10 ** 7)))}
-            speed, grade = draw.choice((1, 300, 2500, 10000)), draw.choice((0, 0, -50, -150, 500))
+            speed = draw.choice((1, 300, 2500, 10000))
+            # one grade, or another from somewhere under the train or ahead of it on
+            grade = draw.choice((0, 0, -50, -150, 500))
+            ground = ((0, grade), (draw.randint(4401, 6000), draw.choice((grade, draw.randint(-200, 200)))), (60000, 0))
             nominal = max(0, train["set"] - max(0, front - rear) // 2)
             if state in (3, 4):
                 air = a, b, equalization
             else:
                 air = (5 * a + 7 * nominal) // 12, b, (5 * a + 2 * b + 7 * nominal) // 14
             session = held(state, a, b, front, rear, equalization, **train)
-            stop = self.model(speed, *air, grade, **train)
+            stop = self.model(speed, *air, ground, **train)
             self.assertEqual(started(session), air)
-            self.assertEqual(predicted(session, speed=speed, grade=grade), (stop, 0))
+            self.assertEqual(predicted(session, speed=speed, ground=ground), (stop, 0))
             none += stop == NONE
         self.assertTrue(20 < none < 300)
 
@@ -297,7 +200,7 @@ class Called(unittest.TestCase):
         # 5,000 + 32,768 = 37,768.
         for target, called in (((4999, 0), 0), ((5000, 0), 1), ((37768, 0), 1), ((37769, 0), 0), ((4000000, 0), 0),
                                ((37768, 1), 0), ((5000, 10000), 0)):
-            self.assertEqual(predicted(held(0, rated=0), [target], grade=DOWN), (NONE, called))
+            self.assertEqual(predicted(held(0, rated=0), [target], ground=DOWN), (NONE, called))
 
     def test_at_rest(self):
         # The stop is the head: the letter, "at or past".

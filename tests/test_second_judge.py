@@ -2,7 +2,7 @@
 
 import unittest
 
-from built import FIRST_CROSSING, core
+from built import FIRST_CROSSING, HUNDREDTHS, core
 from here import example, feeds
 from second_program import made, mph, one_line, run, told, whole
 
@@ -55,7 +55,7 @@ class Judgement(unittest.TestCase):
 
 
 class SpeedsUpAgain(unittest.TestCase):
-    """The walk over a summit of test_second_walk (Hills): 8.00 mph at 5,000, 7.37 at 5,048, 8.22 at 5,096, the stop at
+    """The walk over a summit of test_second_location (Hills): 8.00 mph at 5,000, 7.37 at 5,048, 8.22 at 5,096, the stop at
     5,176."""
 
     def causes(self, *targets, **more):
@@ -124,7 +124,7 @@ class Vectors(unittest.TestCase):
     LEVEL = {"rated": 0, "profile": "profile 0\nprofile 60000"}
     ALL = (
         ("rise-past-target", HILLS, ((8136, 1500),), ((0, 5000, "25.0"), (1, 5001, "25.0"), (2, 5016, "25.0")),
-         ["0 0 0 0 8344", "1 0 1 1 8345", "2 0 1 1 8360"]),
+         ["0 0 0 0 8344", "1 0 1 1 8345", "2 0 1 1 8344"]),
         ("rise-from-below", HILLS, ((6900, 1900), (7000, 1600), (7900, 1200)), ((0, 6400, "8.0"), (1, 6412, "8.0")),
          ["0 0 1 2 8448", "1 0 1 2 8444"]),
         ("cut-below-target", LEVEL, ((20000, 9000), (36000, 4500)), ((0, 5000, "50.0"), (1, 5001, "0.0")),
@@ -146,6 +146,12 @@ class Vectors(unittest.TestCase):
                 # the same stops, and never a call
                 self.assertEqual(self.lines(feed, FIRST_CROSSING),
                                  ["%s 0 0 0 %s" % tuple(line.split()[::4]) for line in want])
+
+    def test_hundredths(self):
+        # By document 01's averages the third stop of the first is a step further on, and all else the same (R-11).
+        for name, *given, want in self.ALL:
+            other = {"rise-past-target": want[:2] + ["2 0 1 1 8360"]}.get(name, want)
+            self.assertEqual(self.lines(self.feed(*given), HUNDREDTHS), other)
 
     def test_stored_feeds_are_these(self):
         for name, *given, want in self.ALL:

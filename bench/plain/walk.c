@@ -49,7 +49,7 @@ static int64_t loss(const plain_consist *train, int64_t force, int64_t s, int64_
 {
     int64_t weight = train->weight;
     int64_t opposing = 1000000 * force + 600000 * weight + 20000000 * train->axles
-        + 100 * weight * s + 7 * train->cars * q + 200000 * weight * grade + 8000 * weight * curve;
+        + 100 * weight * s + 7 * train->cars * q + 2000 * weight * grade + 8000 * weight * curve;
     return down(1449 * opposing, 605000 * weight);
 }
 
@@ -79,7 +79,7 @@ static void predict(const plain_consist *train, const brake_curve *by, const sam
         int64_t s = root(q);
         move(profile, head, &front);
         move(profile, head - train->length, &rear);
-        q -= loss(train, brake_force(train, by, t), s, q, down(front.grade - rear.grade, train->length),
+        q -= loss(train, brake_force(train, by, t), s, q, down(100 * (front.grade - rear.grade), train->length),
                   (front.curve - rear.curve) / train->length);
         t += 12000000 / (11 * s);
         head += STEP_FEET;

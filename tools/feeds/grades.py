@@ -1,52 +1,64 @@
-"""Steep grades, and grades that nearly balance."""
+"""Steep grades, and grades that all but balance."""
+
+from itertools import cycle, islice
 
 from .motion import Run
 from .records import REACH, Feed
 from .trains import draw_profile, draw_targets, draw_train
+from .walks import Walk
 
-MOST = 250                         # records before the last
+MOST = 250                         # records of ground
 
 
-def ended(profile, last):
-    """The records before last, and the one that ends them."""
-    return [record for record in profile if record[0] < last] + [(last, 0, 0, 0)]
+def laid(first, last, pieces):
+    """A profile from first to last of pieces of ground, each feet, grade and curve; level where they run out."""
+    profile, start = [], first
+    for feet, grade, curve in islice(pieces, MOST):
+        if start < last:
+            profile.append((start, grade, curve, 0))
+            start += feet
+    return profile + [(start, 0, 0, 0)] * (start < last) + [(last, 0, 0, 0)]
+
+
+def balanced(feet, total):
+    """One piece or two over so many feet, of grades a hundredth apart, whose sum of grade x feet is the total."""
+    grade, more = divmod(total, feet)
+    return [(part, one, 0) for part, one in ((more, grade + 1), (feet - more, grade)) if part > 0]
+
+
+def draw_slight(draw, length):
+    """A sum of grade x feet whose average over that length, 101 ft or more, lies between -1 and 0 in ten-thousandths of a
+    percent."""
+    most = (length - 1) // 100
+    return -draw.pick((1, most, draw.between(1, most)))
 
 
 # A profile each, from first to last, for a train of that length with its head there.
 
 def dips(draw, first, last, head, length):
-    """Level, with short dips of one hundredth of a percent."""
-    profile = []
-    start = first
-    while start < last and len(profile) < MOST:
-        profile.append((start, 0, draw.pick((0, 0, 1)), 0))
-        dip = start + draw.between(1, 2 * length)
-        profile.append((dip, draw.pick((-1, -1, 1)), 0, 0))
-        start = dip + draw.between(1, length)
-    return ended(profile, last)
+    """Level, with dips and humps of one hundredth of a percent, so short that those under the train make an average near 0, most
+    often between -1 and 0."""
+    def pieces():
+        while True:
+            yield draw.between(length // 4, length), 0, draw.pick((0, 0, 1))
+            yield draw.between(1, max(1, length // 300)), draw.pick((-1, -1, -1, 1)), 0
+    return laid(first, last, pieces())
 
 
 def crests(draw, first, last, head, length):
-    """Ups and downs that nearly cancel under the train, a little more down."""
-    profile = []
-    start = first
-    while start < last and len(profile) < MOST:
-        up = draw.between(1, 300)
-        up_feet = draw.between(1, max(2, length // 2))
-        down_feet = max(1, length - up_feet)
-        # The least whole grade at which the downhill part wins by under a foot-hundredth.
-        down = min(500, up * up_feet // down_feet + 1)
-        profile.append((start, up, 0, 0))
-        profile.append((start + up_feet, -down, 0, 0))
-        start += up_feet + down_feet
-    return ended(profile, last)
+    """Ups and downs that come again after the train's length: wherever it is, all but as much of it is up as down."""
+    up, feet = draw.between(1, 300), draw.between(1, length // 2)
+    return laid(first, last, cycle([(feet, up, 0), *balanced(length - feet, draw_slight(draw, length) - up * feet)]))
 
 
 def crest_below(draw, first, last, head, length):
-    """One crest under the train as the walk begins."""
-    up, crest = draw.between(1, 500), head - draw.between(1, length - 1)
-    down = up * (crest - (head - length)) // (head - crest) + 1
-    return [(first, up, 0, 0), (crest, -min(500, down), 0, 0), (head + 40, 0, 0, 0), (last, 0, 0, 0)]
+    """One crest under the train, which all but balances as the walk begins."""
+    ahead = draw.between(length // 4, length - 1)
+    behind = length - ahead
+    # so that the descent is not steeper than there may be
+    up = draw.between(1, min(500, 480 * ahead // behind))
+    down = balanced(ahead, draw_slight(draw, length) - up * behind)
+    return laid(first, last, [(head - ahead - first, up, 0), *down, (40, down[-1][1], 0)])
 
 
 def descent(draw, first, last, head, length):
@@ -61,15 +73,22 @@ def hills(draw, first, last, head, length):
     return draw_profile(draw, first, last, 500, draw.between(10, 80))
 
 
+def draw_board(draw, train, profile, head, speed):
+    """A board about where the train stops with its offset, or a few feet further; none where it does not stop."""
+    stop = Walk(train, profile, head, speed).location(0)
+    return [] if stop is None else [(stop + train["offset"] + draw.below(30), 0)]
+
+
 PROFILES = (dips, crests, crest_below, descent, climb, hills)
 
 
 def grades(draw, number):
-    """Steep grades, and grades that nearly balance: a train over a crest a
-    little more downhill than up, averages between -1 and 0, long coasting,
-    descents without a stop."""
+    """Steep grades, and grades that all but balance: a train over crests a
+    little more downhill than up, averages between -1 and 0 ten-thousandths of
+    a percent, long coasting, descents without a stop; often a board at which
+    the train just stops."""
     train = draw_train(draw)
-    length = train["length"] = draw.between(50, 2500)
+    length = train["length"] = draw.between(101, 2500)
     first = draw.below(2000)
     head = first + length + draw.below(50)
     fast = draw.between(300, 1800)
@@ -81,4 +100,6 @@ def grades(draw, number):
     last = run.head + REACH + draw.below(2000)
     feed.profile = PROFILES[number % len(PROFILES)](draw, first, last, head, length)
     feed.targets = draw_targets(draw, head, run.head + 3000, fast, draw.between(0, 8))
+    if draw.chance(50):
+        feed.targets = draw_board(draw, train, feed.profile, head, fast) or feed.targets
     return feed.bytes()

@@ -59,6 +59,12 @@ def pack_profile(start, grade=0, curve=0, spare=0):
     return pack((start, grade, curve, spare), PROFILE_WIDTHS)
 
 
+def profile_of(data):
+    """The records that follow a profile's count, as pack_profile takes them."""
+    records = (unpack(data[place:place + PROFILE_BYTES], PROFILE_WIDTHS) for place in range(2, len(data), PROFILE_BYTES))
+    return [(start, grade - 2048 * (grade >> 10), curve, spare) for start, grade, curve, spare in records]
+
+
 def pack_target(location, speed):
     return pack((location, speed), TARGET_WIDTHS)
 

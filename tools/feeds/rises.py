@@ -2,20 +2,14 @@
 
 import re
 
-from .answers import answers
+from .answers import UNLIKE, first_lines
 from .binary32 import value_of
 from .records import SAMPLE_WIDTHS, TARGET_BYTES, TARGET_WIDTHS, split, unpack
 
 # How a train's speed stands to that of the target that calls, and whether its walk is cut.
 RISES = ("above", "below", "cut, above", "cut, below")
-UNLIKE = "unlike"                  # a difference that is none of R-2's
 DECISION = re.compile(r"(\d+ \d) \d (\d) (\d+)", re.ASCII)
 NO_STOP = "16777215"
-
-
-def first_lines(output):
-    """The penalty's line of each sample, or its refusal's."""
-    return [first for first, _ in answers(output.decode("ascii", "replace").splitlines())]
 
 
 def differ_by_call(pair):

@@ -2,10 +2,8 @@
 
 import re
 
-from .answers import answers
-from .binary32 import value_of
-from .records import (PROFILE_BYTES, PROFILE_WIDTHS, REACH, SAMPLE_BYTES, SAMPLE_WIDTHS, Feed,
-                      consist_of, split, unpack)
+from .answers import places
+from .records import REACH, Feed
 from .trains import SURE, draw_targets, draw_train, sample
 
 FAST = 90                          # mph
@@ -64,28 +62,12 @@ def runaway(draw, number):
 
 def grades_between(profile, first, last):
     """The grades of the records that hold somewhere there."""
-    records = [unpack(profile[place:place + PROFILE_BYTES], PROFILE_WIDTHS)
-               for place in range(0, len(profile), PROFILE_BYTES)]
-    return [grade - 2048 * (grade >> 10) for (start, grade, _, _), (end, *_) in zip(records, records[1:])
-            if start < last and end > first]
+    return [grade for (start, grade, *_), (end, *_) in zip(profile, profile[1:]) if start < last and end > first]
 
 
 def runaways(feed, output):
     """How many of a feed's samples were accepted without a stop by penalty air, at 90 mph or
     more, on -4 % or steeper all the way from the rear to the end of the reach.
     The output may be any program's, right or not."""
-    lines = [first for first, _ in answers(output.decode("ascii", "replace").splitlines())]
-    if not any(NO_STOP.fullmatch(line) for line in lines):
-        return 0
-    try:
-        consist, profile, _, samples = split(feed)
-    except IndexError:             # it ends before its samples
-        return 0
-    length = consist_of(consist)["length"]
-    count = 0
-    for line, record in zip(lines, samples):
-        if NO_STOP.fullmatch(line) and len(record) == SAMPLE_BYTES:
-            _, _, _, _, head, speed, _, _ = unpack(record, SAMPLE_WIDTHS)
-            grades = grades_between(profile[2:], head - length, head + REACH)
-            count += value_of(speed) >= FAST and max(grades, default=0) <= STEEP
-    return count
+    return sum(speed >= FAST and max(grades_between(profile, rear, head + REACH), default=0) <= STEEP
+               for profile, rear, head, speed in places(feed, output, NO_STOP))

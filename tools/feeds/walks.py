@@ -1,4 +1,4 @@
-"""A model of document 01's walk, to find the places that matter ahead of a train."""
+"""A model of document 01's walk, with R-11's average of the grade, to find the places that matter ahead of a train."""
 
 from bisect import bisect
 from itertools import accumulate
@@ -36,11 +36,11 @@ class Walk:
         grade_feet, time, square = GradeFeet(profile), 0, speed * speed
         while square > 0 and len(squares) <= STEPS:
             root = isqrt(square)
-            grade = (grade_feet.to(head) - grade_feet.to(head - length)) // length
+            grade = 100 * (grade_feet.to(head) - grade_feet.to(head - length)) // length
             drop = min(2 * full * time // (7 * train["application"]), full - 5 * full // 7)
             force = train["rated"] * (5 * drop // 2) // 6400
             opposing = (1000000 * force + level + 100 * weight * root + 7 * train["cars"] * square
-                        + 200000 * weight * grade)
+                        + 2000 * weight * grade)
             square -= 1449 * opposing // (605000 * weight)
             time += 12000000 // (11 * root)
             head += STEP_FEET

@@ -12,7 +12,7 @@ use Rattle.decision.specs.Decision.{size, readDecision}
 use Rattle.brake.specs.Equalization.{equalizationService}
 use Rattle.air.specs.Rules.{equalizationEmergency, combined, fallService}
 use Rattle.track.specs.Track.{gradeUnder}
-use Rattle.track.specs.Figures.{dip}
+use Rattle.track.specs.Figures.{dip, crest, ridge}
 use Rattle.step.specs.Curve.{cylinderAt, forceAt, penaltyCurve}
 use Rattle.step.specs.Step.{loss, stepTime}
 use Rattle.judge.specs.Judge.{offsetFor}
@@ -39,11 +39,15 @@ pub record Figures : Type 0 where
   -- "That train, A 9,000, B 0, t 1,090: p 232; rated 200,000: F 7,250."
   pub cylinder : cylinderAt (penaltyCurve train 9000 0) 1090 ≡ 232
   pub force : forceAt (train .rated) (penaltyCurve train 9000 0) 1090 ≡ 7250
-  -- "51 ft at 50 and 49 ft at -53, length 100: G -1." The track is `dip`.
-  pub grade : gradeUnder dip 100 100 ≡ negsuc 0
-  -- "W 1,000, N 10, n 40, s 1,000, q 1,000,000, F and C 0: level, loses 3,760; G -100, gains 44,141."
+  -- "51 ft at 50 and 49 ft at -53, length 100", by document 02's R-11 in ten-thousandths: G -47, exactly
+  pub grade : gradeUnder dip 100 100 ≡ negsuc 46
+  -- where it is rounded: 100 ft at 1 and 101 ft at -1, length 201: G -1; 2 ft at 1 and 1 ft at -3, length 3: G -34
+  pub grade-crest : gradeUnder crest 201 201 ≡ negsuc 0
+  pub grade-ridge : gradeUnder ridge 3 3 ≡ negsuc 33
+  -- "W 1,000, N 10, n 40, s 1,000, q 1,000,000, F and C 0: level, loses 3,760"; G -10,000, gains 44,141; G -100, loses 3,281
   pub loses : loss train 0 1000 1000000 (pos 0) 0 ≡ pos 3760
-  pub gains : loss train 0 1000 1000000 (negsuc 99) 0 ≡ negsuc 44140
+  pub gains : loss train 0 1000 1000000 (negsuc 9999) 0 ≡ negsuc 44140
+  pub slight : loss train 0 1000 1000000 (negsuc 99) 0 ≡ pos 3281
   -- "Step time: s 1, 1,090,909; s 10,000, 109."
   pub long-step : stepTime 1 ≡ 1090909
   pub short-step : stepTime 10000 ≡ 109

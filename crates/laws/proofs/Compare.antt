@@ -54,7 +54,7 @@ module _ (c d : Consist) (heavy : Heavy c) (alike : Alike c d) (F F′ s s′ q 
   loss-grows =
       rw (← alike .weight, ← alike .cars, ← alike .axles)
       (floor-grows (pos 1449 *ℤ opposing c F s (q + e) g k) (pos 1449 *ℤ opposing c F′ s′ q g k) (605000 * c .weight) e (omega (arith, heavy .some))
-      (same-ground _ _ (605000 * c .weight * e) (8000 * (c .weight * k)) (pos (200000 * c .weight) *ℤ g)
+      (same-ground _ _ (605000 * c .weight * e) (8000 * (c .weight * k)) (pos (2000 * c .weight) *ℤ g)
       (drag (c .weight) (c .cars) (c .axles) F F′ s s′ q e f h (heavy .enough))))
 
   keeps-more : cut (pos q -ℤ loss d F′ s′ q g k) ≤ cut (pos (q + e) -ℤ loss c F s (q + e) g k)

@@ -62,7 +62,7 @@ abbrev pub drag : Consist → ℕ → ℕ → ℕ → ℕ
 drag c f s q = 1000000 * f + 600000 * c .weight + 20000000 * c .axles + 100 * (c .weight * s) + 7 * (c .cars * q)
 
 abbrev pub pull : Consist → Under → ℤ
-pull c u = pos (200000 * c .weight) *ℤ u .grade
+pull c u = pos (2000 * c .weight) *ℤ u .grade
 
 abbrev pub bend : Consist → Under → ℕ
 bend c u = 8000 * (c .weight * u .curvature)
@@ -77,16 +77,16 @@ module _ {c : Consist} {f s q : ℕ} {u : Under} (w : Words c) (h : Opposed f s 
   pub drag-most : drag c f s q ≤ 680000000000000
   drag-most = omega (arith, mul-le-mul tons (h .root), mul-le-mul cars (h .squared))
 
-  pub pull-most : natAbs (pull c u) ≤ 1700000000000000
-  pull-most = omega (arith, abs-times (200000 * c .weight) (u .grade), mul-le-mul tons (h .grade))
+  pub pull-most : natAbs (pull c u) ≤ 17000000000000
+  pull-most = omega (arith, abs-times (2000 * c .weight) (u .grade), mul-le-mul tons (h .grade))
 
   pub bend-most : bend c u ≤ 270000000000000
   bend-most = omega (arith, mul-le-mul tons (h .curvature))
 
-  pub sum-most : natAbs (pos (drag c f s q) +ℤ pull c u) ≤ 2380000000000000
+  pub sum-most : natAbs (pos (drag c f s q) +ℤ pull c u) ≤ 697000000000000
   sum-most = omega (arith, abs-add (pos (drag c f s q)) (pull c u), drag-most, pull-most)
 
-  pub opposing-most : natAbs (opposing c f s q (u .grade) (u .curvature)) ≤ 2650000000000000
+  pub opposing-most : natAbs (opposing c f s q (u .grade) (u .curvature)) ≤ 967000000000000
   unfolding opposing
   opposing-most = omega (arith, abs-add (pos (drag c f s q) +ℤ pull c u) (pos (bend c u)), sum-most, bend-most)
 

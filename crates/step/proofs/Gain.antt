@@ -26,23 +26,23 @@ use Rattle.step.proofs.Bounds.{drag}
 floor-least : (z : ℤ) (k m : ℕ) → 0 < k → dn z ≤ up z + k * m → dn (floorDiv z (pos k)) ≤ up (floorDiv z (pos k)) + m
 floor-least z k m h l = omega (arith, floor-grows (pos 0) z k m h (omega (arith, l)), floor-up (pos 0) (pos k), floor-dn (pos 0) (pos k))
 
-module _ (c : Consist) (limited : Limited c) (f s q k : ℕ) (g : ℤ) (steep : negsuc 499 ≤ℤ g) where
+module _ (c : Consist) (limited : Limited c) (f s q k : ℕ) (g : ℤ) (steep : negsuc 49999 ≤ℤ g) where
   -- 1,449 times the force is no lower than -238,064 divisors
   pulled : let z = pos 1449 *ℤ opposing c f s q g k in dn z ≤ up z + 605000 * c .weight * gainMost
   unfolding opposing
   pulled =
       let d : ℕ = drag c f s q in
-      let p : ℤ = pos (200000 * c .weight) *ℤ g in
+      let p : ℤ = pos (2000 * c .weight) *ℤ g in
       let b : ℕ = 8000 * (c .weight * k) in
-      let fall : dn g ≤ 500 + up g = omega (arith, le-parts steep) in
+      let fall : dn g ≤ 50000 + up g = omega (arith, le-parts steep) in
       omega (
         arith,
         times-up 1449 (pos d +ℤ p +ℤ pos b),
         times-dn 1449 (pos d +ℤ p +ℤ pos b),
         add-parts (pos d +ℤ p) (pos b),
         add-parts (pos d) p,
-        times-up (200000 * c .weight) g,
-        times-dn (200000 * c .weight) g,
+        times-up (2000 * c .weight) g,
+        times-dn (2000 * c .weight) g,
         mul-le-mul-left (c .weight) fall,
         limited .heaviest,
         limited .axles,

@@ -20,9 +20,9 @@ pub record Limited (c : Consist) : Type 0 where
   pub heaviest : c .weight ≤ 30000
   pub axles : 2 ≤ c .axles
 
--- "grade (-500 to 500)": nowhere below -500
+-- "grade (-500 to 500)", in ten-thousandths: nowhere below -50,000
 pub record NoSteeper (ground : Ground) : Type 0 where
-  pub grade : (head : ℕ) → negsuc 499 ≤ℤ ground .grade head
+  pub grade : (head : ℕ) → negsuc 49999 ≤ℤ ground .grade head
 
 -- "speed above 100" is refused
 abbrev pub speedMost : ℕ
@@ -58,7 +58,7 @@ heaviestTrain = record {
 }
 
 abbrev pub steepestGround : Under
-steepestGround = record { grade = negsuc 499; curvature = 0 }
+steepestGround = record { grade = negsuc 49999; curvature = 0 }
 
 -- with this squared speed
 abbrev pub running : ℕ → Run

@@ -33,7 +33,7 @@ pub record Applied (k : Curve) (t : ℕ) : Type 0 where
   pub curve : Braking k
   pub clock : t ≤ stepsMost * timeMost
 
--- what the opposing force is made of, beside the consist: the greatest force of such a curve, and averages with room above the profile's 500 and 2,000
+-- what the opposing force is made of, beside the consist: the greatest force of such a curve, and averages with room above a profile's 50,000 and 2,000
 pub record Opposed (f s q : ℕ) (u : Under) : Type 0 where
   pub force : f ≤ 212500000
   pub root : s ≤ rootMost

@@ -27,10 +27,11 @@ abbrev pub even : Under → Ground
 even u = record { grade = λ h. u .grade; curvature = λ h. u .curvature }
 
 -- "Opposing force in millionths of a lb: 1,000,000 F + 600,000 W + 20,000,000 n + 100 W s + 7 N q + 200,000 W G + 8,000 W C"
+-- Document 02's R-11: "the force takes 2,000 W G in place of 200,000 W G"
 unfoldable pub opposing : Consist → ℕ → ℕ → ℕ → ℤ → ℕ → ℤ
 opposing c f s q g k =
     pos (1000000 * f + 600000 * c .weight + 20000000 * c .axles + 100 * (c .weight * s) + 7 * (c .cars * q))
-    +ℤ pos (200000 * c .weight) *ℤ g
+    +ℤ pos (2000 * c .weight) *ℤ g
     +ℤ pos (8000 * (c .weight * k))
 
 -- "q loses 1,449 × that / (605,000 W), down, rounded here only"; "It may gain."

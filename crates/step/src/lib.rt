@@ -76,7 +76,7 @@ fn opposing_force(c: Consist, f: u64, s: u64, q: u64, u: Under) -> i64
         + 20_000_000 * c.axles as u64
         + 100 * (w * s)
         + 7 * (c.cars as u64 * q);
-    let pull = (200_000 * w) as i64 * u.grade;
+    let pull = (2_000 * w) as i64 * u.grade;
     let bend = 8_000 * (w * u.curvature);
     drag as i64 + pull + bend as i64
 }

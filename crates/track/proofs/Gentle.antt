@@ -33,6 +33,9 @@ module _ (t : Track) (head length : ℕ) (gentle : Gentle t) where
 pub gentle-averages : GentleAverages
 unfolding GentleAverages gradeUnder curvatureUnder
 gentle-averages t head length gentle = record {
-  grade = floor-most _ length 500 (omega (arith, grade-feet-most t gentle (head - length) head (segments t), feet-most t head length gentle));
+  grade =
+      let z = gradeFeet t (head - length) head (segments t) in
+      floor-most _ length 50000
+      (omega (arith, abs-times 100 z, grade-feet-most t gentle (head - length) head (segments t), feet-most t head length gentle));
   curvature = div-le-of-le-mul length (omega (arith, curvature-feet-most t gentle (head - length) head (segments t), feet-most t head length gentle));
 }

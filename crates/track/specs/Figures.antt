@@ -11,7 +11,15 @@ use Rattle.track.specs.Totals.{gradeTotal, curvatureTotal, gradeTo}
 abbrev pub dip : Track
 dip = record { count = 3; starts = 0 ∷ 51 ∷ 100 ∷ []; grades = pos 50 ∷ negsuc 52 ∷ pos 0 ∷ []; curvatures = 100 ∷ 201 ∷ 0 ∷ [] }
 
--- the same in bytes
+-- 100 ft at 1 and 101 ft at -1
+abbrev pub crest : Track
+crest = record { count = 3; starts = 0 ∷ 100 ∷ 201 ∷ []; grades = pos 1 ∷ negsuc 0 ∷ pos 0 ∷ []; curvatures = 0 ∷ 0 ∷ 0 ∷ [] }
+
+-- 2 ft at 1 and 1 ft at -3
+abbrev pub ridge : Track
+ridge = record { count = 3; starts = 0 ∷ 2 ∷ 3 ∷ []; grades = pos 1 ∷ negsuc 2 ∷ pos 0 ∷ []; curvatures = 0 ∷ 0 ∷ 0 ∷ [] }
+
+-- `dip` in bytes
 abbrev pub dipBytes : List ℕ
 dipBytes = 0 ∷ 0 ∷ 0 ∷ 6 ∷ 65 ∷ 144 ∷ 0 ∷ 0 ∷ 51 ∷ 249 ∷ 99 ∷ 36 ∷ 0 ∷ 0 ∷ 100 ∷ 0 ∷ 0 ∷ 0 ∷ []
 
@@ -27,21 +35,21 @@ hill = record {
 pub record Figures : Type 0 where
   -- the whole of it: its curvature, and both from its bytes
   pub dip-curvature : curvatureUnder dip 100 100 ≡ 149
-  pub laid-grade : gradeUnder (layOf dipBytes) 100 100 ≡ negsuc 0
+  pub laid-grade : gradeUnder (layOf dipBytes) 100 100 ≡ negsuc 46
   pub laid-curvature : curvatureUnder (layOf dipBytes) 100 100 ≡ 149
   -- on one segment
-  pub one-grade : gradeUnder dip 40 30 ≡ pos 50
+  pub one-grade : gradeUnder dip 40 30 ≡ pos 5000
   pub one-curvature : curvatureUnder dip 40 30 ≡ 100
   -- across two: 10 ft of each
-  pub two-grade : gradeUnder dip 61 20 ≡ negsuc 1
+  pub two-grade : gradeUnder dip 61 20 ≡ negsuc 149
   pub two-curvature : curvatureUnder dip 61 20 ≡ 150
   -- across three: 10, 20 and 30 ft
-  pub three-grade : gradeUnder hill 70 60 ≡ pos 33
+  pub three-grade : gradeUnder hill 70 60 ≡ pos 3333
   pub three-curvature : curvatureUnder hill 70 60 ≡ 20
   -- ten of its twenty feet lie before the first start
-  pub before-grade : gradeUnder hill 20 20 ≡ pos 150
+  pub before-grade : gradeUnder hill 20 20 ≡ pos 15000
   -- longer than where its head is
-  pub long-grade : gradeUnder hill 20 40 ≡ pos 75
+  pub long-grade : gradeUnder hill 20 40 ≡ pos 7500
   -- beyond the last start
   pub beyond-grade : gradeUnder hill 170 100 ≡ pos 0
   -- no length

@@ -12,9 +12,9 @@ pub record Gentle (t : Track) : Type 0 where
   pub curvature : (k : ℕ) → at t k .curvature ≤ 2000
   pub rising : Rising t
 
--- an average is no steeper and no sharper than a segment may be
+-- an average is no steeper and no sharper than a segment may be; 500 hundredths are 50,000 ten-thousandths
 pub record Averaged (t : Track) (head length : ℕ) : Type 0 where
-  pub grade : natAbs (gradeUnder t head length) ≤ 500
+  pub grade : natAbs (gradeUnder t head length) ≤ 50000
   pub curvature : curvatureUnder t head length ≤ 2000
 
 unfoldable pub GentleAverages : Type 0

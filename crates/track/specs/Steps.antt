@@ -58,9 +58,13 @@ pub record Behind (rear head : Sums) : Type 0 where
   pub sized-head : Sized (most + 1) head
   pub rises : rear .curvature ≤ head .curvature
 
--- their differences over a length, each down
+-- the most that the sum of grades can gain from one to the other
+abbrev pub differenceMost : ℕ
+differenceMost = 2 * ((most + 1) * 2 ^ 47)
+
+-- their differences over a length, each down; a grade in hundredths of the sum's unit
 abbrev pub averagesOf : (rear head : Sums) (length : ℕ) → Under
 averagesOf rear head length = record {
-  grade = floorDiv (head .grade -ℤ rear .grade) (pos length);
+  grade = floorDiv (pos 100 *ℤ (head .grade -ℤ rear .grade)) (pos length);
   curvature = (head .curvature - rear .curvature) / length;
 }

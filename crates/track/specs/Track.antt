@@ -1,5 +1,5 @@
 -- "Train from head minus length to head. G and C are the sums of grade × feet and curvature × feet under the train, over its length, each down."
--- Definitions only.
+-- Document 02's R-11: "The average grade is to come back in ten-thousandths of a percent, still down". Definitions only.
 use Prim.Native.Nat.{ℕ, zero, suc, _+_, _-_, _*_, _/_, min, max}
 use mathlib.Core.List.{List}
 use lib.IntN.{ℤ, pos, _+ℤ_, _*ℤ_}
@@ -45,9 +45,9 @@ curvatureFeet t rear head (suc n) = curvatureFeet t rear head n + feet t rear he
 abbrev pub segments : Track → ℕ
 segments t = min (t .count) most - 1
 
--- G: over its length, down
+-- G: over its length, down; "in ten-thousandths of a percent", of a sum in hundredths
 unfoldable pub gradeUnder : Track → ℕ → ℕ → ℤ
-gradeUnder t head length = floorDiv (gradeFeet t (head - length) head (segments t)) (pos length)
+gradeUnder t head length = floorDiv (pos 100 *ℤ gradeFeet t (head - length) head (segments t)) (pos length)
 
 -- C: over its length, down
 unfoldable pub curvatureUnder : Track → ℕ → ℕ → ℕ

@@ -2,15 +2,15 @@
 // `under_train` asks for a gentle track and that track's totals; the others answer for every input.
 use profile::Segment;
 ghost use mathlib.Core.Path.{_≡_};
-ghost use Prim.Native.Nat.{_-_, _/_, _<_, min};
+ghost use Prim.Native.Nat.{_-_, _/_, _≤_, _<_, min};
 ghost use lib.ListN.{getD};
-ghost use lib.IntN.{pos};
+ghost use lib.IntN.{pos, natAbs, _*ℤ_};
 ghost use Rattle.whole.specs.Floor.{floorDiv};
 ghost use Rattle.profile.specs.Profile.{most};
 ghost use Rattle.track.specs.Track.{layOf};
 ghost use Rattle.track.specs.Gentle.{Gentle};
 ghost use Rattle.track.specs.Totals.{totalsOf, AreTotals, holdingTo, foundOf};
-ghost use Rattle.track.specs.Steps.{trackOf, Sized, Plus, keptIn, Rises, From, reachedOf, Behind, averagesOf};
+ghost use Rattle.track.specs.Steps.{trackOf, Sized, Plus, keptIn, Rises, From, reachedOf, Behind, differenceMost, averagesOf};
 
 // A profile laid out: record k at place k of each array.
 pub struct Track {
@@ -258,11 +258,12 @@ fn rear_of(head: u32, length: u32) -> u32
     feet_between(length, head)
 }
 
-// G: a sum over the train's length, down.
+// G in ten-thousandths of a percent: a sum in hundredths over the train's length, down.
 fn grade_over(sum: i64, length: u32) -> i64
-    ensures { λ r. ⌜ r ≡ floorDiv sum (pos length) ⌝ }
+    requires { ⌜ natAbs sum ≤ differenceMost ⌝ }
+    ensures { λ r. ⌜ r ≡ floorDiv (pos 100 *ℤ sum) (pos length) ⌝ }
 {
-    whole::floor_div(sum, length as i64)
+    whole::floor_div(100 * sum, length as i64)
 }
 
 // C.

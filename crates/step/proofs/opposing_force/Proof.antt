@@ -29,7 +29,7 @@ module _ (c : tie.Start) where
   bend-in : b ≤ 270000000000000
   bend-in = bend-most words (c .pre)
 
-  factor-holds : Holds w64 (200000 * c .args .c .weight) (pos (200000 * c .args .c .weight))
+  factor-holds : Holds w64 (2000 * c .args .c .weight) (pos (2000 * c .args .c .weight))
   factor-holds = nat-holds (omega (arith, words))
 
   grade-holds : Holds w64 (ofZ w64 (c .args .u .grade)) (c .args .u .grade)
@@ -40,7 +40,7 @@ module _ (c : tie.Start) where
 
   -- as the code comes to them: the pull, with the drag, with the bend
   abbrev pulled : ℕ
-  pulled = ofZ w64 (toZ w64 (200000 * c .args .c .weight) *ℤ toZ w64 (ofZ w64 (c .args .u .grade)))
+  pulled = ofZ w64 (toZ w64 (2000 * c .args .c .weight) *ℤ toZ w64 (ofZ w64 (c .args .u .grade)))
 
   pulled-holds : Holds w64 pulled (pull (c .args .c) (c .args .u))
   pulled-holds = op-holds _*ℤ_ factor-holds grade-holds pull-fits
