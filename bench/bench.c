@@ -35,11 +35,11 @@ typedef struct {
     uint8_t bytes[BUONGILACH_BOTH_DECISIONS_BYTES];
 } pair;
 
-/* A feed's parts, which lie in its bytes. */
+/* A feed's parts. */
 typedef struct {
     const uint8_t *consist, *profile, *targets;
     const sample *samples;
-    size_t profile_bytes, target_bytes, count;
+    size_t consist_bytes, profile_bytes, target_bytes, count;
 } parts;
 
 /* What a side did with a feed. */
@@ -53,9 +53,18 @@ static void die(const char *words)
     exit(2);
 }
 
+/* The consist with its blocks, as a call is lent it: a feed has their count in between. */
+static size_t read_consist(const uint8_t *bytes, uint8_t *consist)
+{
+    size_t blocks_bytes = BUONGILACH_BLOCK_BYTES * (size_t)bytes[BUONGILACH_CONSIST_BYTES];
+    memcpy(consist, bytes, BUONGILACH_CONSIST_BYTES);
+    memcpy(consist + BUONGILACH_CONSIST_BYTES, bytes + BUONGILACH_CONSIST_BYTES + 1, blocks_bytes);
+    return BUONGILACH_CONSIST_BYTES + blocks_bytes;
+}
+
 static parts read_feed(const char *name)
 {
-    static uint8_t bytes[MOST_BYTES];
+    static uint8_t bytes[MOST_BYTES], consist[BUONGILACH_CONSIST_BYTES + 255 * BUONGILACH_BLOCK_BYTES];
     FILE *file = fopen(name, "rb");
     if (file == NULL)
         die("the feed can't be read");
@@ -63,8 +72,9 @@ static parts read_feed(const char *name)
     fclose(file);
 
     parts feed;
-    feed.consist = bytes;
-    feed.profile = bytes + BUONGILACH_CONSIST_BYTES + 2;
+    feed.consist = consist;
+    feed.consist_bytes = read_consist(bytes, consist);
+    feed.profile = bytes + feed.consist_bytes + 1 + 2;
     size_t records = feed.profile[-2] * (size_t)256 + feed.profile[-1];
     feed.profile_bytes = BUONGILACH_PROFILE_RECORD_BYTES * records;
     feed.targets = feed.profile + feed.profile_bytes + 1;
@@ -82,7 +92,7 @@ static parts read_feed(const char *name)
 static void run_library(const parts *feed, int *answers, pair *decisions)
 {
     uint8_t session[BUONGILACH_SESSION_BYTES] = { 0 };
-    if (buongilach_open(session, sizeof session, feed->consist, BUONGILACH_CONSIST_BYTES) != 0)
+    if (buongilach_open(session, sizeof session, feed->consist, feed->consist_bytes) != 0)
         die("the archive refuses the consist");
     for (size_t i = 0; i < feed->count; i++)
         answers[i] = buongilach_sample(session, sizeof session, feed->samples[i].bytes, sizeof(sample),
@@ -93,7 +103,7 @@ static void run_library(const parts *feed, int *answers, pair *decisions)
 static void run_plain(const parts *feed, int *answers, pair *decisions)
 {
     plain_session session = { 0 };
-    if (plain_open(&session, feed->consist, BUONGILACH_CONSIST_BYTES) != 0)
+    if (plain_open(&session, feed->consist, feed->consist_bytes) != 0)
         die("plain C refuses the consist");
     for (size_t i = 0; i < feed->count; i++)
         answers[i] = plain_sample(&session, feed->samples[i].bytes, sizeof(sample), feed->profile,
@@ -104,7 +114,7 @@ static void run_plain(const parts *feed, int *answers, pair *decisions)
 static void run_second(const parts *feed, int *answers, pair *decisions)
 {
     second_session session = { 0 };
-    if (second_open(&session, feed->consist, BUONGILACH_CONSIST_BYTES) != 0)
+    if (second_open(&session, feed->consist, feed->consist_bytes) != 0)
         die("the second program refuses the consist");
     for (size_t i = 0; i < feed->count; i++)
         answers[i] = second_judge(&session, feed->samples[i].bytes, sizeof(sample), feed->profile,

@@ -1,8 +1,8 @@
 /*
  * plain.c - the rules of documents 01 and 02 in plain C, as fast as the direct way
  * is: one walk finds the stop and every target's location, a second one is made
- * only where a penalty stands or is called, averages come of running totals, numbers
- * are 64 bits wide.  second/
+ * only where a penalty stands or is called, averages come of running totals, each
+ * block's end is looked for from where it was last, numbers are 64 bits wide.  second/
  * says each rule's phrase; here they stand without it.
  *
  * Its parts stand in files of their own, each of which uses those before it; this
@@ -14,6 +14,7 @@
 
 enum {
     CONSIST_BYTES = 16,
+    BLOCK_BYTES = 4,
     PROFILE_BYTES = 6,
     TARGET_BYTES = 5,
     SAMPLE_BYTES = 20,

@@ -11,8 +11,13 @@
 #include <stddef.h>
 #include <stdint.h>
 
+enum { PLAIN_BLOCKS = 64 };
+
+/* Without a block the weight is spread evenly. */
 typedef struct {
     int64_t cars, axles, weight, length, rated, application, recharge, set, offset;
+    int blocks;
+    uint16_t block_length[PLAIN_BLOCKS], block_weight[PLAIN_BLOCKS]; /* head end first */
 } plain_consist;
 
 typedef struct {

@@ -39,12 +39,21 @@ static void print_decision(const uint8_t *decision)
            (unsigned)numbers[BUONGILACH_PENALTY], (unsigned)numbers[BUONGILACH_CAUSE], (unsigned)numbers[BUONGILACH_STOP]);
 }
 
-/* The consist, and with it a new session. */
+/* The consist's 16 bytes, judged by themselves, a count of one byte and the blocks, and with them a new session. */
 static unsigned open_session(void)
 {
-    uint8_t consist[BUONGILACH_CONSIST_BYTES];
-    size_t taken = take(consist, sizeof consist);
-    return buongilach_open(session, sizeof session, consist, taken);
+    uint8_t consist[BUONGILACH_CONSIST_BYTES_MOST];
+    uint8_t count;
+    size_t taken = take(consist, BUONGILACH_CONSIST_BYTES);
+    unsigned refusal = buongilach_judge_consist(consist, taken);
+    if (refusal != BUONGILACH_ACCEPTED)
+        return refusal;
+    if (take(&count, 1) != 1 || count > BUONGILACH_BLOCKS_MOST)
+        return BUONGILACH_BROKEN_BLOCKS;
+    size_t blocks_bytes = (size_t)count * BUONGILACH_BLOCK_BYTES;
+    if (take(consist + BUONGILACH_CONSIST_BYTES, blocks_bytes) != blocks_bytes)
+        return BUONGILACH_BROKEN_BLOCKS;
+    return buongilach_open(session, sizeof session, consist, BUONGILACH_CONSIST_BYTES + blocks_bytes);
 }
 
 /* A record count of two bytes, high byte first, and the profile. A count out of range is answered without reading on. */

@@ -22,7 +22,7 @@
  *    sessions may run at the same time, as nothing is kept outside of what is lent;
  *  - floating-point exceptions are masked in the processor's MXCSR register, as they are by default. Its rounding mode, and
  *    whether denormals are taken as zero, change no answer;
- *  - the stack is aligned to 16 bytes at the call, as every compiler for x86-64 Linux does, and has 8,192 bytes left.
+ *  - the stack is aligned to 16 bytes at the call, as every compiler for x86-64 Linux does, and has 12,288 bytes left.
  * Any bytes and any lengths are allowed: no content makes a call undefined.
  *
  * What a call leaves behind, beside what it writes: MXCSR's exception flags, which stay set once a reading has set them.
@@ -39,8 +39,8 @@ extern "C" {
 #endif
 
 /* The version of this header, major * 1,000,000 + minor * 1,000 + patch. */
-#define BUONGILACH_VERSION_MAJOR 5
-#define BUONGILACH_VERSION_MINOR 1
+#define BUONGILACH_VERSION_MAJOR 6
+#define BUONGILACH_VERSION_MINOR 0
 #define BUONGILACH_VERSION_PATCH 0
 #define BUONGILACH_VERSION (BUONGILACH_VERSION_MAJOR * 1000000 + BUONGILACH_VERSION_MINOR * 1000 + BUONGILACH_VERSION_PATCH)
 
@@ -48,8 +48,11 @@ extern "C" {
 uint32_t buongilach_version(void);
 
 enum {
-    BUONGILACH_SESSION_BYTES = 41,
-    BUONGILACH_CONSIST_BYTES = 16,
+    BUONGILACH_SESSION_BYTES = 301,      /* a session's buffer, with blocks or without */
+    BUONGILACH_CONSIST_BYTES = 16,       /* a consist without blocks */
+    BUONGILACH_BLOCK_BYTES = 4,          /* what each block adds to it */
+    BUONGILACH_BLOCKS_MOST = 64,
+    BUONGILACH_CONSIST_BYTES_MOST = 272, /* a consist with the most blocks */
     BUONGILACH_SAMPLE_BYTES = 20,
     BUONGILACH_DECISION_BYTES = 8,
     BUONGILACH_BOTH_DECISIONS_BYTES = 16, /* what a sample call writes: two decisions, one after the other */
@@ -68,8 +71,8 @@ enum {
 /* What a call answers. docs/MOUNTING.md says what each asks of the caller. */
 enum buongilach_refusal {
     BUONGILACH_ACCEPTED = 0,
-    BUONGILACH_NO_SESSION = 1,     /* a sample, and no open session's record, 41 bytes, stands at the front of its buffer */
-    BUONGILACH_WRONG_LENGTH = 2,   /* a consist is not 16 bytes, a sample not 20, a decision that is read not 8 */
+    BUONGILACH_NO_SESSION = 1,     /* a sample, and no open session's record stands at the front of 301 bytes */
+    BUONGILACH_WRONG_LENGTH = 2,   /* a consist is under 16 bytes, a sample not 20, a decision that is read not 8 */
     BUONGILACH_WRONG_MARK = 3,     /* a wrong mark; a sample's spare bit set, or its rear lost with rear bits not zero */
     BUONGILACH_OUT_OF_RANGE = 4,   /* a field of a consist or a decision; a sample's time or head over 24 bits (writer) */
     BUONGILACH_TOO_LIGHT = 5,      /* a consist of less than 10 tons a car */
@@ -79,7 +82,9 @@ enum buongilach_refusal {
     BUONGILACH_WRONG_TIME = 9,     /* not 1 to 5 seconds after the last accepted sample */
     BUONGILACH_NOT_COVERED = 10,   /* head less than the train's length, or a profile too short before or behind it */
     /* 11 is retired: it is proved that no input gives it, and the number is not used again */
-    BUONGILACH_NO_ROOM = 12        /* fewer bytes (or numbers) to write to than what is written: 16 bytes by a sample call */
+    BUONGILACH_NO_ROOM = 12,       /* fewer bytes (or numbers) to write to than are asked for: 16 bytes by a sample call, 301 by an
+                                      opening */
+    BUONGILACH_BROKEN_BLOCKS = 13  /* a consist's blocks break a rule, their byte count included */
 };
 
 /* A decision's brake state. */
@@ -108,14 +113,16 @@ enum buongilach_number {
 /* ---- the session */
 
 /*
- * A session is a record of 41 bytes at the front of a buffer of 41 or more. No call reads or writes a byte past it. Its last four
- * bytes check the others: a record in which one byte or two were changed, wherever, is no open session's; where more were
- * changed, only chance makes it one.
+ * A session is a record at the front of a buffer of 301 bytes or more: 41 bytes, and where its consist has blocks 4 more for each
+ * and another 4. An accepted call writes the record and sets the bytes past it, up to the 301st, to 0; no call reads those, and
+ * none reads or writes a byte from the 302nd on. Check words guard the record: one in which one byte or two were changed, wherever,
+ * is no open session's; where more were changed, only chance makes it one.
  */
 
 /*
- * Opens a session: writes its record, whatever stood there.
- * Refuses 2, 4, 5 (the consist), 12 (`session` under 41 bytes). Refused, an earlier session stays as it was.
+ * Opens a session, whatever stood in its buffer. The consist is 16 bytes, and 4 more for each of its blocks.
+ * Refuses 2, 4, 5 (the consist), 12 (`session` under 301 bytes, whatever the consist), 13 (the consist's blocks). Refused, an
+ * earlier session stays as it was.
  */
 uint8_t buongilach_open(uint8_t *session, size_t session_bytes, const uint8_t *consist, size_t consist_bytes);
 
@@ -131,7 +138,8 @@ uint8_t buongilach_open(uint8_t *session, size_t session_bytes, const uint8_t *c
  * Emergency is predicted from the sample that calls the penalty on. It is called where the stop by emergency air is at or past a
  * target of speed 0 that lies from the head to 32,768 ft ahead, and once called it stands until a session is opened anew, whatever
  * targets are lent afterwards. There is no emergency without a penalty.
- * Refuses 1 (no open session's record, or `session` under 41 bytes), 2, 3, 6, 7, 8, 9, 10, 12 (`decision` under 16 bytes).
+ * Grade and curvature under the train are averaged by the weight of the consist's blocks, or evenly where it has none.
+ * Refuses 1 (no open session's record, or `session` under 301 bytes), 2, 3, 6, 7, 8, 9, 10, 12 (`decision` under 16 bytes).
  */
 uint8_t buongilach_sample(uint8_t *session, size_t session_bytes, const uint8_t *sample, size_t sample_bytes,
                           const uint8_t *profile, size_t profile_bytes, const uint8_t *targets, size_t targets_bytes,
@@ -143,16 +151,28 @@ bool buongilach_is_open(const uint8_t *session, size_t session_bytes);
 /* ---- the records: each is written from numbers, and judged as a sample call or an opening would judge it */
 
 /*
- * Writes a consist to the first 16 bytes of `out`: cars (1 to 250), axles (2 to 2,000), weight (10 to 30,000 tons), length (50 to
- * 20,000 ft), rated brake force (0 to 10,000,000 lb), application time (1,000 to 240,000 ms), recharge per second (1 to 1,000
- * hundredths of a psi), set pressure (7,000 to 11,000 hundredths of a psi), target offset (0 to 4,000 ft).
+ * Writes a consist without blocks, its weight spread evenly, to the first 16 bytes of `out`: cars (1 to 250), axles (2 to 2,000),
+ * weight (10 to 30,000 tons), length (50 to 20,000 ft), rated brake force (0 to 10,000,000 lb), application time (1,000 to 240,000
+ * ms), recharge per second (1 to 1,000 hundredths of a psi), set pressure (7,000 to 11,000 hundredths of a psi), target offset (0
+ * to 4,000 ft).
  * Refuses 4, 5, 12.
  */
 uint8_t buongilach_write_consist(uint16_t cars, uint16_t axles, uint16_t weight, uint16_t length, uint32_t rated,
                                  uint32_t application, uint16_t recharge, uint16_t set, uint16_t offset, uint8_t *out,
                                  size_t out_bytes);
 
-/* 0, or 2, 4, 5. */
+/*
+ * Writes a consist with 0 to 64 blocks, 4 bytes each, to the front of `out`: the same nine numbers, then for block i lengths[i]
+ * (feet) and weights[i] (tons), head end first. Each is at least 1; the lengths sum to the train's length, the weights to its
+ * weight. The two counts are of elements and must be equal. Without a block it writes what buongilach_write_consist does.
+ * Refuses 4, 5, 12 (`out` under 16 bytes and 4 for each of the lengths), 13 (the blocks break a rule, or the counts differ).
+ */
+uint8_t buongilach_write_manifest(uint16_t cars, uint16_t axles, uint16_t weight, uint16_t length, uint32_t rated,
+                                  uint32_t application, uint16_t recharge, uint16_t set, uint16_t offset, const uint16_t *lengths,
+                                  size_t lengths_count, const uint16_t *weights, size_t weights_count, uint8_t *out,
+                                  size_t out_bytes);
+
+/* A consist with blocks or without. 0, or 2 (under 16 bytes), 4, 5, 13 (what follows the 16 bytes breaks a rule). */
 uint8_t buongilach_judge_consist(const uint8_t *consist, size_t consist_bytes);
 
 /*

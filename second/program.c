@@ -35,12 +35,32 @@ size_t second_take_number(size_t bytes, size_t missing)
     return (size_t)second_bits(number, 0, 8 * (int)bytes);
 }
 
-/* "Consist": 0, or what it is refused for. */
+/* "A one-byte block count follows the consist, 0 for none" (02, R-1), then the blocks: 0,
+ * with how many bytes they are, or 13 where the count is missing or over 64, or a byte is
+ * missing.  Nothing is read on after a count out of range. */
+int second_take_blocks(unsigned char *blocks, size_t *count)
+{
+    size_t records = second_take_number(1, SECOND_BLOCKS_MOST + 1);
+    if (records > SECOND_BLOCKS_MOST)
+        return 13;
+    *count = records * SECOND_BLOCK_BYTES;
+    return fread(blocks, 1, *count, stdin) == *count ? 0 : 13;
+}
+
+/* "Consist": 0, or what it is refused for.  2, 4 and 5 are judged on the 16 bytes alone,
+ * before the block count is taken (decision 142). */
 int second_take_consist(second_session *session)
 {
-    unsigned char consist[SECOND_CONSIST_BYTES];
-    size_t count = fread(consist, 1, sizeof consist, stdin);
-    return second_open(session, consist, count);
+    unsigned char bytes[SECOND_CONSIST_BYTES + SECOND_BLOCK_BYTES * SECOND_BLOCKS_MOST];
+    second_consist alone;
+    size_t count = fread(bytes, 1, SECOND_CONSIST_BYTES, stdin);
+    int refusal = second_read_consist(bytes, count, &alone);
+    size_t more = 0;
+    if (refusal == 0)
+        refusal = second_take_blocks(bytes + SECOND_CONSIST_BYTES, &more);
+    if (refusal != 0)
+        return refusal;
+    return second_open(session, bytes, SECOND_CONSIST_BYTES + more);
 }
 
 /* "Two-byte record count (high byte first) and profile": 0, or 6 where it is
@@ -100,8 +120,8 @@ void second_run_samples(second_session *session)
 /* "The session program reads standard input: consist, two-byte record count
  * (high byte first) and profile, one-byte count and targets, then samples.  A
  * refused consist prints `x` and its number and ends; a broken or short profile
- * prints `x 6`, targets `x 7`, and end."  Its status is 0, or 1 where the output
- * could not be written (decision 41). */
+ * prints `x 6`, targets `x 7`, and end."  The blocks are the consist's (02, R-1).  Its
+ * status is 0, or 1 where the output could not be written (decision 41). */
 int main(void)
 {
     static second_session session;

@@ -9,10 +9,42 @@ enum {
     SECOND_EMERGENCY_MARK = 0x45
 };
 
-/* "Consist, 16 bytes": 2, 4 or 5 when it is refused. */
+/* "1 to 64 blocks, each with length and weight of at least 1, head end first, summing to
+ * the consist's length and weight.  Each block is two bit fields, length 15 and weight 15,
+ * with two spare zero bits" (02, R-1): 13 when a rule is broken, "their byte count
+ * included".  No byte is no block, which is right (decision 135). */
+int second_read_blocks(const unsigned char *bytes, size_t count, second_consist *train)
+{
+    second_blocks *blocks = &train->blocks;
+    int64_t length = 0;
+    int64_t weight = 0;
+    memset(blocks, 0, sizeof *blocks);
+    if (count == 0)
+        return 0;
+    if (count % SECOND_BLOCK_BYTES != 0 || count / SECOND_BLOCK_BYTES > SECOND_BLOCKS_MOST)
+        return 13;
+    blocks->records = (int64_t)(count / SECOND_BLOCK_BYTES);
+    for (int64_t i = 0; i < blocks->records; i++) {
+        const unsigned char *record = bytes + i * SECOND_BLOCK_BYTES;
+        blocks->length[i] = second_bits(record, 0, 15);
+        blocks->weight[i] = second_bits(record, 15, 15);
+        if (second_bits(record, 30, 2) != 0)
+            return 13;
+        if (blocks->length[i] < 1 || blocks->weight[i] < 1)
+            return 13;
+        length += blocks->length[i];
+        weight += blocks->weight[i];
+    }
+    if (length != train->length || weight != train->weight)
+        return 13;
+    return 0;
+}
+
+/* "Consist, 16 bytes", and what follows it: 2, 4, 5 or 13 when it is refused.  "2 now
+ * means a consist under 16 bytes; 13 [is] checked after 5" (02, R-1). */
 int second_read_consist(const unsigned char *bytes, size_t count, second_consist *train)
 {
-    if (count != SECOND_CONSIST_BYTES)
+    if (count < SECOND_CONSIST_BYTES)
         return 2;
     train->cars = second_bits(bytes, 0, 9);
     train->axles = second_bits(bytes, 9, 11);
@@ -35,7 +67,7 @@ int second_read_consist(const unsigned char *bytes, size_t count, second_consist
         return 4;
     if (train->weight < 10 * train->cars)
         return 5;
-    return 0;
+    return second_read_blocks(bytes + SECOND_CONSIST_BYTES, count - SECOND_CONSIST_BYTES, train);
 }
 
 /* "Profile, 6 bytes a record, 2 to 257 records ...": 6 when a rule is broken. */

@@ -16,14 +16,15 @@
  * two answer otherwise (decision 120).
  *
  * With -DSECOND_HUNDREDTHS the average grade and its force are document 01's, in
- * hundredths of a percent, in place of R-11's, to the same end (decision 132).  Either
- * switch stands by itself, and both may be given.
+ * hundredths of a percent, in place of R-11's, to the same end (decision 132).  With
+ * -DSECOND_EVENLY the weight is spread evenly, whatever the blocks (decision 143).  Each
+ * switch stands by itself, and all may be given.
  *
  * It takes the direct way everywhere: fields bit by bit, one walk for the stop,
  * one more for each target and one for emergency, each kept from its first head to
- * its last, the whole profile looked through at every step.  Each function is headed
- * by the phrase of 01, or of a request of 02, that it does; "decision 8" is a point
- * of docs/DECISIONS.md.  There is no floating point.
+ * its last, the whole profile looked through at every step, and once for each block.
+ * Each function is headed by the phrase of 01, or of a request of 02, that it does;
+ * "decision 8" is a point of docs/DECISIONS.md.  There is no floating point.
  *
  * Its parts stand in files of their own, in the order of 01, and each uses those
  * before it; this one file has them all.
@@ -44,6 +45,7 @@
 #include "readings.c"
 #include "records.c"
 #include "brakes.c"
+#include "averages.c"
 #include "walk.c"
 #include "emergency.c"
 #include "session.c"

@@ -13,21 +13,30 @@
 #include <stdint.h>
 
 enum {
-    SECOND_CONSIST_BYTES = 16,
+    SECOND_CONSIST_BYTES = 16,  /* without its blocks */
+    SECOND_BLOCK_BYTES = 4,     /* a record */
     SECOND_PROFILE_BYTES = 6,   /* a record */
     SECOND_TARGET_BYTES = 5,    /* a record */
     SECOND_SAMPLE_BYTES = 20,
     SECOND_DECISION_BYTES = 8,
     SECOND_BOTH_BYTES = 16,     /* a sample's two decisions */
-    SECOND_PROFILE_LEAST = 2,   /* records */
+    SECOND_BLOCKS_MOST = 64,    /* records */
+    SECOND_PROFILE_LEAST = 2,
     SECOND_PROFILE_MOST = 257,
     SECOND_TARGETS_MOST = 8,
     SECOND_NO_STOP = 16777215
 };
 
-/* The consist record. */
+/* The blocks of a manifest train, head end first; no record is an even spread of weight. */
+typedef struct {
+    int64_t records;
+    int64_t length[SECOND_BLOCKS_MOST], weight[SECOND_BLOCKS_MOST];
+} second_blocks;
+
+/* The consist record, which "carries the blocks" (02, R-1). */
 typedef struct {
     int64_t cars, axles, weight, length, rated, application, recharge, set, offset;
+    second_blocks blocks;
 } second_consist;
 
 /* What the air brakes hold from sample to sample. */
@@ -81,7 +90,10 @@ typedef struct {
     int64_t cause;         /* the first calling target's place, 0 for none */
 } second_prediction;
 
-/* Opens a session.  0, or a refusal number (2, 4, 5) with the session as it was. */
+/*
+ * Opens a session: 16 bytes, and 4 for each block.  0, or a refusal number (2, 4, 5, 13)
+ * with the session as it was.
+ */
 int second_open(second_session *session, const unsigned char *bytes, size_t count);
 
 /*
@@ -94,7 +106,7 @@ int second_judge(second_session *session,
                  const unsigned char *targets, size_t targets_count,
                  unsigned char *output, size_t output_count);
 
-/* The readers.  0, or 2, 4, 5; 6; 7; 2, 3, 4. */
+/* The readers.  0, or 2, 4, 5, 13; 6; 7; 2, 3, 4. */
 int second_read_consist(const unsigned char *bytes, size_t count, second_consist *train);
 int second_read_profile(const unsigned char *bytes, size_t count, second_profile *profile);
 int second_read_targets(const unsigned char *bytes, size_t count, second_targets *targets);

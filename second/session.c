@@ -3,7 +3,8 @@
  */
 
 /* "Opening gives state 0, hold = A = set, B = 0, fall 0, equalization 0."
- * "Opening uses 2, 4 and 5; if refused, an earlier session stays as it was." */
+ * "Opening uses 2, 4 and 5", and 13 for the blocks (02, R-1); "if refused, an earlier
+ * session stays as it was." */
 int second_open(second_session *session, const unsigned char *bytes, size_t count)
 {
     second_consist train;

@@ -17,37 +17,7 @@ enum {
     SECOND_SQUARE_MOST = 10000 * 10000 + SECOND_STEPS * SECOND_STEP_GAIN   /* 587,555,072 */
 };
 
-/* "The average grade is to come back in ten-thousandths of a percent, still down, and
- * the force takes 2,000 W G in place of 200,000 W G.  Profile records keep hundredths"
- * (02, R-11).  SECOND_GRADE_UNITS of G are a hundredth, and each is SECOND_GRADE_FORCE
- * millionths of a lb a ton. */
-#ifndef SECOND_HUNDREDTHS
-enum { SECOND_GRADE_UNITS = 100, SECOND_GRADE_FORCE = 2000 };
-#else
-enum { SECOND_GRADE_UNITS = 1, SECOND_GRADE_FORCE = 200000 };      /* document 01 alone */
-#endif
-
 /* ---------------------------------------------------------------- the walk */
-
-/* "Train from head minus length to head.  G and C are the sums of grade x feet
- * and curvature x feet under the train, over its length, each down."  G's unit is
- * taken on the sum, before the one division there is (decision 130). */
-void second_averages(const second_profile *profile, int64_t head, int64_t length,
-                     int64_t *grade, int64_t *curve)
-{
-    int64_t grade_feet = 0;
-    int64_t curve_feet = 0;
-    for (int64_t i = 0; i + 1 < profile->records; i++) {
-        int64_t from = second_greatest(profile->start[i], head - length);
-        int64_t to = second_least(profile->start[i + 1], head);
-        if (to > from) {
-            grade_feet += profile->grade[i] * (to - from);
-            curve_feet += profile->curve[i] * (to - from);
-        }
-    }
-    *grade = (int64_t)second_down(SECOND_GRADE_UNITS * grade_feet, length);
-    *curve = (int64_t)second_down(curve_feet, length);
-}
 
 /* "Drop = 2 x set x t / (7 x application time), down, not more than A minus
  * (5A + 2B)/7 (the quotient down), not below 0.  Cylinder p = B + 5/2 drop,
@@ -137,10 +107,9 @@ void second_make_walk(second_walked *walked, const second_consist *train,
     walked->q[0] = q;
     while (step < SECOND_STEPS && q > 0) {
         int64_t s = second_root(q);
-        int64_t grade, curve;
-        second_averages(profile, head, train->length, &grade, &curve);
+        second_ground under = second_averages(profile, head, train);
         int64_t force = second_brake_force(train, second_air_cylinder(train, air, t));
-        second_wide opposing = second_opposing(train, force, s, q, grade, curve);
+        second_wide opposing = second_opposing(train, force, s, q, under.grade, under.curve);
 
         q -= second_loss(train, opposing);
         t += second_step_time(s);

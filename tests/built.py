@@ -18,6 +18,8 @@ CHECKED = ["-O1", "-g", "-fsanitize=undefined,address", "-fno-sanitize-recover=a
 FIRST_CROSSING = "-DSECOND_FIRST_CROSSING"
 # With the average grade that it has without R-11.
 HUNDREDTHS = "-DSECOND_HUNDREDTHS"
+# With the weight spread evenly, as it has it without R-1.
+EVENLY = "-DSECOND_EVENLY"
 
 
 @functools.cache

@@ -39,10 +39,10 @@ def mph(hundredths):
     return "%d.%02d5" % divmod(hundredths - 1, 100)
 
 
-def made(samples, profile=LEVEL, targets="", **train):
-    """A whole feed; samples are (time, head, mph, front, rear) words or lines."""
+def made(samples, profile=LEVEL, targets="", blocks=(), **train):
+    """A whole feed; samples are (time, head, mph, front, rear) words or lines, blocks (length, weight)."""
     values = dict(TRAIN, **train)
-    lines = ["%s %d" % item for item in values.items()] + [profile, targets]
+    lines = ["%s %d" % item for item in values.items()] + ["block %d %d" % block for block in blocks] + [profile, targets]
     for one in samples:
         if not isinstance(one, str):
             one = "sample %s head %s speed %s front %s rear %s" % one
@@ -82,12 +82,25 @@ def one_line(head="5000", speed="0.0", front="90.0", rear="90.0", **more):
 
 # ------------------------------------------------------- second.h, for calls of the core
 
+class Blocks(ctypes.Structure):
+    _fields_ = [("records", ctypes.c_int64)] + [(name, ctypes.c_int64 * 64) for name in ("length", "weight")]
+
+
 class Consist(ctypes.Structure):
     _fields_ = [(name, ctypes.c_int64) for name in (
-        "cars", "axles", "weight", "length", "rated", "application", "recharge", "set", "offset")]
+        "cars", "axles", "weight", "length", "rated", "application", "recharge", "set", "offset")] + [("blocks", Blocks)]
 
 
 CONSIST = Consist(**TRAIN)
+
+
+def train_of(blocks=(), **train):
+    """A consist for the core, with those blocks."""
+    consist = Consist(**train)
+    consist.blocks.records = len(blocks)
+    for i, (length, weight) in enumerate(blocks):
+        consist.blocks.length[i], consist.blocks.weight[i] = length, weight
+    return consist
 
 
 class Brakes(ctypes.Structure):
@@ -130,7 +143,7 @@ class Prediction(ctypes.Structure):
 
 def held(state=0, a=9000, b=0, front=9000, rear=9000, equalization=0, **train):
     """A session after an update that left its brakes so, charged unless it is told otherwise."""
-    return Session(open=1, begun=1, train=Consist(**dict(TRAIN, **train)), cause=1, brakes=Brakes(
+    return Session(open=1, begun=1, train=train_of(**dict(TRAIN, **train)), cause=1, brakes=Brakes(
         state=state, hold=9000, a=a, b=b, equalization=equalization, last_front=front, last_rear=rear))
 
 
@@ -142,6 +155,12 @@ def started(session):
     if air.emergency != 1:
         raise AssertionError("not the curve of emergency")
     return air.a, air.b, air.equalization
+
+
+def parts(draw, count, total):
+    """So many numbers of at least 1 that sum to the total."""
+    ends = sorted(draw.sample(range(1, total), count - 1))
+    return [end - start for start, end in zip([0, *ends], [*ends, total])]
 
 
 def whole(*numbers):

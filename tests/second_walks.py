@@ -8,7 +8,7 @@ import ctypes
 import math
 
 from built import core
-from second_program import Air, Consist, Profile, Sample, TRAIN, whole
+from second_program import Air, Profile, Sample, TRAIN, train_of, whole
 
 NONE = 16777215
 
@@ -20,18 +20,26 @@ def profile_of(ground):
     return profile
 
 
-def averages(ground, head, length, *build):
-    """G and C under a train of that length."""
-    grade, curve = ctypes.c_int64(), ctypes.c_int64()
-    core(*build).second_averages(ctypes.byref(profile_of(ground)), *whole(head, length), ctypes.byref(grade),
-                                 ctypes.byref(curve))
-    return grade.value, curve.value
+class Ground(ctypes.Structure):
+    """Averages as averages.c has them."""
+
+    _fields_ = [(name, ctypes.c_int64) for name in ("grade", "curve")]
+
+
+def averages(ground, head, length, *build, blocks=(), weight=None):
+    """G and C under a train of that length, its weight spread evenly or by blocks."""
+    call = core(*build).second_averages
+    call.restype = Ground
+    weight = sum(tons for _, tons in blocks) if weight is None else weight
+    under = call(ctypes.byref(profile_of(ground)), *whole(head),
+                 ctypes.byref(train_of(blocks, length=length, weight=weight)))
+    return under.grade, under.curve
 
 
 def walk(limit, speed, ground, *build, head=5000, **train):
     """Where second_walk ends for that limit, with A 9,000 and B 0."""
     return core(*build).second_walk(
-        ctypes.byref(Consist(**dict(TRAIN, **train))), ctypes.byref(Air(a=9000)),
+        ctypes.byref(train_of(**dict(TRAIN, **train))), ctypes.byref(Air(a=9000)),
         ctypes.byref(Sample(head=head, speed=speed)), ctypes.byref(profile_of(ground)), *whole(limit))
 
 

@@ -43,6 +43,7 @@ class Compare(unittest.TestCase):
         self.assertIn("no difference", out)
         self.assertNotIn("rises", out)
         self.assertNotIn("finer", out)
+        self.assertNotIn("weighed", out)
 
     def test_difference_is_saved(self):
         first = 100
@@ -90,9 +91,10 @@ class Compare(unittest.TestCase):
         self.assertEqual(status, 3)
         self.assertIn("never occurred: state 0,", out)
         self.assertIn("cause 8, refusal 2,", out)
-        self.assertIn("refusal 10, emergency called in state 0,", out)
+        self.assertIn("refusal 10, refusal 13, emergency called in state 0,", out)
         self.assertIn("emergency called in state 5, emergency cause 1 in state 0,", out)
-        self.assertIn("emergency cause 8 in state 5, a runaway, a slight descent\n", out)
+        self.assertIn("emergency cause 8 in state 5, a runaway, a slight descent, a sample with 1 block, "
+                      "a sample with 2 to 63 blocks, a sample with 64 blocks\n", out)
         self.assertEqual(self.run_compare("299", "--", "true", "--", "true")[0], 0)
 
     def test_emergency_is_counted(self):
@@ -137,6 +139,16 @@ class Compare(unittest.TestCase):
         status, out, _ = self.run_compare("8", "--kind", "grades", "--", *program, "--", *program)
         self.assertEqual(status, 0, out)
         self.assertIn("\nslight    %d\n" % count, out)
+
+    def test_blocks_are_counted(self):
+        # a program that accepts two samples, whatever it is given
+        program = self.saying("0 0 0 0 7\n0 0 0 0 0\n1 0 0 0 7\n1 0 0 0 0\n")
+        counts = [feeds.random_feed(seed, "manifest")[16] for seed in range(30)]
+        sizes = [sum(2 for count in counts if least <= count <= most) for least, most in ((1, 1), (2, 63), (64, 64))]
+        self.assertTrue(all(sizes))
+        status, out, _ = self.run_compare("30", "--kind", "manifest", "--", program, "--", program)
+        self.assertEqual(status, 0, out)
+        self.assertIn("\nblocks    30 feeds; accepted samples with 1:%d  2 to 63:%d  64:%d\n" % (*sizes,), out)
 
     def test_rises_are_counted(self):
         # Of three samples the second calls the penalty, by the first target.  By the first crossing it is not called, or a
@@ -202,6 +214,64 @@ class Compare(unittest.TestCase):
             self.assertIn("seed 0 (trip): the outputs differ;", out)
             self.assertIn("line 1 of program 1: 0 0 1 1 7\nline 1 of program 3: %s\n" % line, out)
 
+    # Manifest trains in a row of which each has two blocks or more.
+    SEVERAL = next(first for first in range(100) if all(feeds.random_feed(first + more, "manifest")[16] > 1 for more in range(3)))
+
+    def test_what_is_weighed_is_counted(self):
+        # Of two samples the second has the penalty; with the weight spread evenly it has not, or the first has it already.
+        ours = "0 0 0 0 7\n0 0 0 0 0\n1 0 1 1 7\n1 0 0 0 7\n"
+        later = ours.replace("1 0 1 1 7\n1 0 0 0 7", "1 0 0 0 7\n1 0 0 0 0")
+        sooner = ours.replace("0 0 0 0 7", "0 0 1 2 9").replace("1 1 7", "1 2 7")
+        for others, samples, classes in (
+                (ours, 0, (0, 0, 0, 0, 0)), (later, 1, (3, 0, 0, 0, 0)), (sooner, 2, (0, 3, 0, 0, 0)),
+                (ours.replace("1 1 7", "1 1 6"), 1, (0, 0, 3, 0, 0)), (ours.replace("1 1 7", "1 1 16777215"), 1, (0, 0, 0, 3, 0)),
+                (ours.replace("1 0 0 0 7", "1 0 1 1 9"), 1, (0, 0, 0, 0, 3))):
+            program = self.saying(ours)
+            status, out, _ = self.run_compare("3", "--kind", "manifest", "--first", str(self.SEVERAL), "--evenly",
+                                              self.saying(others), "--", program, "--", program)
+            self.assertEqual(status, 0, out)
+            self.assertIn("\nweighed   %d feeds, %d samples; call more:%d  call less:%d  farther:%d  nearer:%d  neither:%d\n"
+                          % (sum(classes), 3 * samples, *classes), out)
+            self.assertIn("program 3 0:3\n", out)
+
+    def test_an_even_spread_that_differs_otherwise(self):
+        program = self.saying("0 0 1 1 7\n0 0 0 0 7\n")
+        for said, line in (("1 0 1 1 7\n1 0 0 0 7\n", "1 0 1 1 7"), ("0 1 1 1 7\n0 1 0 0 7\n", "0 1 1 1 7"), ("x 13\n", "x 13"),
+                           ("", "(ended)")):
+            status, out, _ = self.run_compare("3", "--kind", "manifest", "--first", str(self.SEVERAL), "--evenly",
+                                              self.saying(said), "--", program, "--", program)
+            self.assertEqual(status, 1)
+            self.assertIn("seed %d (manifest): the outputs differ;" % self.SEVERAL, out)
+            self.assertIn("line 1 of program 1: 0 0 1 1 7\nline 1 of program 3: %s\n" % line, out)
+
+    def test_an_even_spread_that_differs_without_blocks(self):
+        # the first feed with one block at most, after those with more
+        program, farther = (self.saying("0 0 1 1 %d\n0 0 0 0 7\n" % stop) for stop in (7, 8))
+        first = next(seed for seed in range(self.SEVERAL, 100) if feeds.random_feed(seed, "manifest")[16] == 1)
+        status, out, _ = self.run_compare("50", "--kind", "manifest", "--first", str(self.SEVERAL), "--evenly", farther,
+                                          "--", program, "--", program)
+        self.assertEqual(status, 1)
+        self.assertIn("seed %d (manifest): the outputs differ;" % first, out)
+        self.assertIn("\nweighed   %d feeds" % (first - self.SEVERAL + 1), out)
+        trip = next(seed for seed in range(100) if feeds.random_feed(seed, "trip")[16] == 0)
+        status, out, _ = self.run_compare("1", "--kind", "trip", "--first", str(trip), "--evenly", farther,
+                                          "--", program, "--", program)
+        self.assertEqual(status, 1)
+
+    def test_all_earlier_rules(self):
+        # each has the number of its place, whatever the order of the options
+        ours, without = (self.saying(said) for said in ("0 0 1 1 7\n0 0 0 0 7\n", "0 0 0 0 7\n0 0 0 0 0\n"))
+        further, odd = self.saying("0 0 1 1 9\n0 0 0 0 7\n"), self.saying("x 8\n")
+        for evenly, wrong in ((without, None), (odd, "5: x 8")):
+            status, out, _ = self.run_compare("1", "--kind", "manifest", "--first", str(self.SEVERAL), "--evenly", evenly,
+                                              "--hundredths", further, "--first-crossing", ours, "--", ours, "--", ours)
+            self.assertEqual(status, 1 if wrong else 0, out)
+            self.assertLess(out.index("\nfiner     1 feeds, 1 samples;"), out.index("\nweighed   1 feeds, 1 samples;"))
+            if wrong:
+                self.assertIn("line 1 of program 1: 0 0 1 1 7\nline 1 of program %s\n" % wrong, out)
+            else:
+                self.assertIn("program 4 0:1; program 5 0:1\n", out)
+
     def test_both_earlier_rules(self):
         ours, without = (self.saying(said) for said in ("0 0 1 1 7\n0 0 0 0 7\n", "0 0 0 0 7\n0 0 0 0 0\n"))
         further = self.saying("0 0 1 1 9\n0 0 0 0 7\n")
@@ -227,6 +297,8 @@ class Compare(unittest.TestCase):
                       ("5", "--first-crossing", "/nonexistent/program", "--", "true", "--", "true"),
                       ("5", "--hundredths", "--", "true", "--", "true"),
                       ("5", "--hundredths", "/nonexistent/program", "--", "true", "--", "true"),
+                      ("5", "--evenly", "--", "true", "--", "true"),
+                      ("5", "--evenly", "/nonexistent/program", "--", "true", "--", "true"),
                       ("5", "--", "/nonexistent/program", "--", "true")):
             with self.subTest(words=words):
                 self.assertEqual(self.run_compare(*words)[0], 2)

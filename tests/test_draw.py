@@ -182,6 +182,71 @@ class Drawn(unittest.TestCase):
                     self.assertTrue(looks.LEFT <= x <= looks.RIGHT and looks.WHERE[0] <= y <= looks.FAST[1])
 
 
+class Blocks(unittest.TestCase):
+    """The train of a feed with blocks: 600 ft and 1,000 tons."""
+
+    @classmethod
+    def setUpClass(cls):
+        cls.without, cls.lines = run_of("case-5532")
+
+    def drawn(self, *blocks):
+        """The picture; what is decided does not matter here."""
+        text = "".join("block %d %d\n" % block for block in blocks)
+        return draw(feeds.make(example("case-5532").replace("profile 0\n", text + "profile 0\n", 1)), self.lines)
+
+    def box(self, mark):
+        return [float(mark.get(name)) for name in ("x", "y", "width", "height")]
+
+    def test_without_blocks_nothing_is_added(self):
+        svg = Svg(draw(self.without, self.lines))
+        self.assertEqual((svg.marks("block"), svg.marks("even")), ([], []))
+        self.assertFalse([words for words in svg.texts() if "tons a foot" in words])
+
+    def test_nothing_else_changes(self):
+        before, after = draw(self.without, self.lines).splitlines(), self.drawn((100, 400), (500, 600)).splitlines()
+        added = [line for line in after if line not in before]
+        self.assertEqual([line for line in after if line not in added], before)
+        self.assertEqual(len(added), 8)
+
+    def test_as_long_as_its_feet_and_as_high_as_its_tons_a_foot(self):
+        blocks = ((100, 400), (300, 300), (200, 300))
+        marks = Svg(self.drawn(*blocks)).marks("block")
+        self.assertEqual([mark.get("data-place") for mark in marks], ["1", "2", "3"])
+        whole = looks.TRAIN[1] - looks.TRAIN[0]
+        end = looks.TRAIN[1]
+        for mark, (length, weight) in zip(marks, blocks):
+            x, y, width, height = self.box(mark)
+            # from the head, at the right, backward
+            self.assertAlmostEqual(x + width, end, delta=0.11)
+            self.assertAlmostEqual(width, whole * length / 600, delta=0.11)
+            self.assertAlmostEqual(y + height, looks.TONS[0], delta=0.11)
+            self.assertAlmostEqual(height, (looks.TONS[0] - looks.TONS[1]) * weight / length / 4, delta=0.11)
+            end = x
+        self.assertAlmostEqual(end, looks.TRAIN[0], delta=0.11)
+
+    def test_what_is_said(self):
+        svg = Svg(self.drawn((100, 400), (500, 600)))
+        for words in ("2 blocks, tons a foot:", "4.00 at most, 1.67 even", "rear", "head"):
+            self.assertIn(words, svg.texts())
+        line, = svg.marks("even")
+        self.assertAlmostEqual(float(line.get("y1")), looks.TONS[0] - (looks.TONS[0] - looks.TONS[1]) / 2.4, delta=0.11)
+
+    def test_one_block_is_even(self):
+        svg = Svg(self.drawn((600, 1000)))
+        self.assertIn("1 block, tons a foot:", svg.texts())
+        line, = svg.marks("even")
+        self.assertAlmostEqual(float(line.get("y1")), looks.TONS[1], delta=0.11)
+
+    def test_a_foot_is_seen_and_all_is_inside(self):
+        svg = Svg(self.drawn(*[(1, 1)] * 63, (537, 937)))
+        boxes = [self.box(mark) for mark in svg.marks("block")]
+        self.assertEqual(len(boxes), 64)
+        for x, y, width, height in boxes:
+            self.assertGreaterEqual(width, 0.5)
+            self.assertGreater(height, 1)
+            self.assertTrue(looks.RIGHT < x and x + width < looks.WIDTH and looks.FAST[0] < y and y + height < looks.FAST[1])
+
+
 class Labels(unittest.TestCase):
 
     def test_spread(self):
@@ -217,6 +282,7 @@ class Refused(unittest.TestCase):
         self.assert_unfit(data, other_state, "not this feed's")
         self.assert_unfit(data, ["x 8"] * len(feeds.answers(lines)), "no sample was accepted")
         self.assert_unfit(data[:20], ["x 6"], "no whole profile")
+        self.assert_unfit(data[:16] + b"\1" + feeds.pack_block(0, 6000) + data[17:], lines, "a block of no length")
 
     def test_command(self):
         done = subprocess.run([DRAW, os.path.join(EXAMPLES, "trip.txt"), "-"], input=b"x 6\n",

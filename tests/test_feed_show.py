@@ -3,7 +3,7 @@
 import random
 import unittest
 
-from feed_texts import SAMPLE, WHOLE
+from feed_texts import SAMPLE, TRAIN, WHOLE
 from here import feeds
 from feeds.words import Line
 
@@ -35,19 +35,40 @@ class Show(unittest.TestCase):
         for end in range(len(data) + 1):
             with self.subTest(end=end):
                 self.same(data[:end])
+        data = feeds.make(TRAIN + "block 75 225\nblock 525 775\nprofile 0\nprofile 40000\n" + SAMPLE)
+        for end in range(len(data) + 1):
+            with self.subTest(end=end):
+                self.same(data[:end])
 
     def test_garbage(self):
         draw = random.Random(1)
         for number in range(400):
             data = bytearray(draw.getrandbits(8) for _ in range(draw.getrandbits(8)))
-            if number % 2 and len(data) > 18:
-                # A small count, so that the targets and samples are reached.
-                data[16], data[17] = 0, draw.getrandbits(3)
-                place = 18 + 6 * data[17]
+            if number % 2 and len(data) > 40:
+                # Small counts, so that the profile, the targets and samples are reached.
+                data[16] = draw.getrandbits(2)
+                place = 17 + 4 * data[16]
+                data[place], data[place + 1] = 0, draw.getrandbits(3)
+                place += 2 + 6 * data[place + 1]
                 if number % 4 == 3 and place < len(data):
                     data[place] &= 3
             with self.subTest(number=number):
                 self.same(bytes(data))
+
+    def test_blocks(self):
+        for lines, count in ((["block 75 225", "block 525 775"], 2), (["block 0 32767 spare 1", "block 32767 0 spare 2"], 2),
+                             (["block-count 0"], 0), (65 * ["block 1 1"], 65), (255 * ["block 1 1"], 255)):
+            data = feeds.make(TRAIN + "".join(line + "\n" for line in lines) + "profile 0\nprofile 40000\n" + SAMPLE)
+            shown = feeds.show(data)
+            with self.subTest(lines=lines[:2]):
+                self.assertEqual(data[16], count)
+                self.assertEqual(shown[10:12 + len(lines)], ["# blocks", *lines, "# profile"])
+                self.assertEqual((shown[-1], shown[-2]), (SAMPLE.strip(), "# samples"))
+                self.same(data)
+        # a count that promises more than there is
+        shown = feeds.show(feeds.make(TRAIN + "block-count 65\nblock 600 1000\nraw 04b0\ncut\n"))
+        self.assertEqual(shown[10:], ["# blocks", "block-count 65", "block 600 1000", "raw 04b0", "cut"])
+        self.assertEqual(feeds.show(feeds.make(TRAIN + "cut\n"))[10:], ["# blocks", "cut"])
 
     def test_no_bytes_and_one(self):
         self.same(b"")

@@ -16,15 +16,35 @@ class Make(unittest.TestCase):
             "000001010" "00000101000" "000001111101000" "000001001011000"
             "000000110000110101000000" "000111010100110000" "0000110010"
             "10001100101000" "000111110100")
-        self.assertEqual(data[16:18].hex(), "0002")
-        self.assertEqual(data[18:30].hex(), "000000000000" "009c40000000")
-        self.assertEqual(data[30:36].hex(), "01" "00159b0000")
-        self.assertEqual(data[36:].hex(), "53000000" "80001388" "00000000" "42b40000" "42b40000")
+        self.assertEqual(data[16:19].hex(), "00" "0002")
+        self.assertEqual(data[19:31].hex(), "000000000000" "009c40000000")
+        self.assertEqual(data[31:37].hex(), "01" "00159b0000")
+        self.assertEqual(data[37:].hex(), "53000000" "80001388" "00000000" "42b40000" "42b40000")
+
+    def test_blocks(self):
+        # 000000001001011 000000011100001 00, 000001000001101 000001100000111 11
+        data = feeds.make(TRAIN + "block 75 225\nblock 525 775 spare 3\nprofile 0\nprofile 40000\n")
+        self.assertEqual(data[16:25].hex(), "02" "00960384" "041a0c1f")
+        self.assertEqual(data[25:27].hex(), "0002")
+        self.assertEqual(feeds.make(TRAIN + "block 32767 0\ncut\n")[16:].hex(), "01" "fffe0000")
+
+    def test_no_blocks_is_a_count_of_none(self):
+        self.assertEqual(feeds.make(TRAIN + "block-count 0\nprofile 0\nprofile 40000\n"), feeds.make(WHOLE))
+        self.assertEqual(len(feeds.make(TRAIN + "cut\n")), 16)
+        self.assertEqual(feeds.make(TRAIN + "block-count 0\ncut\n")[16:], b"\0")
+
+    def test_blocks_that_are_broken(self):
+        cut = TRAIN + "block-count 65\nblock 600 1000\nraw 04b0\ncut\n"
+        self.assertEqual(feeds.make(cut)[16:].hex(), "41" "04b00fa0" "04b0")
+        # before the count's line the consist goes on
+        self.assertEqual(feeds.make(TRAIN + "raw ff\nblock-count 0\nraw 00\ncut\n")[16:].hex(), "ff" "00" "00")
+        many = feeds.make(TRAIN + "block-count 255\n" + 300 * "block 2 3\n" + "profile 0\nprofile 40000\n")
+        self.assertEqual(many[16:-13].hex(), "ff" + 300 * "0004000c" + "0002")
 
     def test_profile_fields(self):
         data = feeds.make(TRAIN + "profile 1 grade -1 curve 2000 spare 3\nprofile 2\n")
         # 24 bits of start, then 11111111111 11111010000 11.
-        self.assertEqual(data[18:24].hex(), "000001" "ffff43")
+        self.assertEqual(data[19:25].hex(), "000001" "ffff43")
 
     def test_lost_rear(self):
         data = feeds.make(WHOLE + "sample 1 head 2 speed 0.7 front bits 0x3f333333 rear lost\n")
@@ -35,17 +55,19 @@ class Make(unittest.TestCase):
 
     def test_no_targets_is_a_count_of_none(self):
         self.assertEqual(feeds.make(WHOLE)[-1:], b"\0")
-        self.assertEqual(len(feeds.make(WHOLE)), 31)
-        self.assertEqual(len(feeds.make(WHOLE + "cut\n")), 30)
+        self.assertEqual(len(feeds.make(WHOLE)), 32)
+        self.assertEqual(len(feeds.make(WHOLE + "cut\n")), 31)
 
     def test_counts_as_stated(self):
         data = feeds.make(TRAIN + "profile-count 258\nprofile 0\ntarget-count 9\n")
-        self.assertEqual(data[16:].hex(), "0102" "000000000000" "09")
+        self.assertEqual(data[17:].hex(), "0102" "000000000000" "09")
+        many = feeds.make(WHOLE + "target-count 3\n" + 256 * "target 5 speed 0\n")
+        self.assertEqual((many[31], len(many)), (3, 32 + 5 * 256))
 
     def test_raw_stands_where_it_is(self):
         self.assertEqual(feeds.make("raw 00 ff01\ncut"), b"\0\xff\1")
         data = feeds.make(WHOLE + "raw aabb\n" + SAMPLE + "raw cc\n")
-        self.assertEqual(data[30:33].hex(), "aabb00")
+        self.assertEqual(data[31:34].hex(), "aabb00")
         self.assertEqual(data[-1:].hex(), "cc")
 
     def test_nearest_binary32(self):
@@ -82,6 +104,20 @@ class BadText(unittest.TestCase):
         ("cars 10\nprofile 0\n", 2, "the consist needs axles, weight"),
         (TRAIN, 9, "there is no profile"),
         (TRAIN + SAMPLE, 10, "there is no profile"),
+        (TRAIN + "block\n", 10, "block needs its length and weight"),
+        (TRAIN + "block 75\n", 10, "block needs its length and weight"),
+        (TRAIN + "block 32768 1\n", 10, "length 32768 is not from 0 to 32767"),
+        (TRAIN + "block 1 32768\n", 10, "weight 32768 is not from 0 to 32767"),
+        (TRAIN + "block 1 -1\n", 10, "weight -1 is not from 0 to 32767"),
+        (TRAIN + "block 1 1 spare 4\n", 10, "spare 4 is not from 0 to 3"),
+        (TRAIN + "block 1 1 1\n", 10, "block does not know 1"),
+        (TRAIN + "block-count 256\n", 10, "block-count 256 is not from 0 to 255"),
+        (TRAIN + "block-count 1\nblock-count 1\n", 11, "block-count is given twice"),
+        (TRAIN + 256 * "block 1 1\n" + "profile 0\n", 266, "more than 255 block lines need a block-count"),
+        (TRAIN + "block 600 1000\ncars 1\n", 11, "the consist cannot come after the blocks"),
+        (TRAIN + "block 600 1000\n", 10, "there is no profile"),
+        (WHOLE + "block 600 1000\n", 12, "the blocks cannot come after the profile"),
+        ("cars 10\nblock 600 1000\n", 2, "the consist needs axles, weight"),
         (TRAIN + "profile\n", 10, "profile needs its start"),
         (TRAIN + "profile 16777216\n", 10, "start 16777216 is not from 0 to 16777215"),
         (TRAIN + "profile 0 grade 1024\n", 10, "grade 1024 is not from -1024 to 1023"),

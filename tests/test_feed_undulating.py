@@ -102,6 +102,7 @@ class Walks(unittest.TestCase):
     def feed(self, country, *target):
         """One sample, where the walk was taken; one target or none."""
         lines = ["%s %d" % item for item in country.train.items()]
+        lines += ["block %d %d" % block for block in country.blocks]
         lines += ["profile %d grade %d curve %d" % record[:3] for record in country.profile]
         lines += ["target %d speed %d" % target] if target else []
         full = psi(country.train["set"])

@@ -12,17 +12,24 @@ from feeds import random_feed
 
 FLAGS = ["-DSECOND_NO_MAIN", "-I" + os.path.join(ROOT, "include")]
 HEADER = os.path.join(ROOT, "include", "buongilach.h")
-STANDIN = os.path.join(ROOT, "tests", "standin.c")
+STANDIN = [os.path.join(ROOT, "tests", name) for name in ("standin.c", "standin_consists.c", "standin_sessions.c")]
+MANIFEST = os.path.join(ROOT, "tests", "manifest.c")
 HOSTILE = sorted(os.path.join(EXAMPLES, "hostile", name) for name in os.listdir(os.path.join(EXAMPLES, "hostile"))
                  if name.endswith(".c"))
 # The stand-in takes its answers from the rules that hostile expects.
-EXPECTED = os.path.join(EXAMPLES, "hostile", "expected.c")
+EXPECTED = [os.path.join(EXAMPLES, "hostile", name) for name in ("expected.c", "expected_consist.c")]
+SESSION_BYTES = 301
 
 
 def build(name, *sources):
     """A program over the stand-in, whose parts are compiled once for all."""
-    parts = dict.fromkeys([*sources, STANDIN, EXPECTED, built.SECOND])
+    parts = dict.fromkeys([*sources, *STANDIN, *EXPECTED, built.SECOND])
     return built.build(name, *[built.compiled(part, *FLAGS) if part.endswith(".c") else part for part in parts])
+
+
+def page(name):
+    with open(os.path.join(ROOT, "docs", name), encoding="utf-8") as file:
+        return file.read()
 
 
 def lines(program, given=b""):
@@ -46,9 +53,11 @@ class Examples(unittest.TestCase):
         cls.second = built.second()
 
     def test_mounted_prints_what_second_prints(self):
-        feeds = [random_feed(seed) for seed in range(120)]
-        whole = random_feed(0, "trip")
-        feeds += [whole[:length] for length in range(0, 16 + 2 + 6 * 3 + 1)] + [whole[:-1], b""]
+        feeds = [random_feed(seed) for seed in range(120)] + [random_feed(seed, "manifest") for seed in range(40)]
+        whole, blocks = random_feed(0, "trip"), random_feed(0, "manifest")
+        feeds += [whole[:length] for length in range(0, 16 + 1 + 2 + 6 * 3 + 1)] + [whole[:-1], b""]
+        feeds += [blocks[:length] for length in range(16, 16 + 1 + 4 * blocks[16] + 3)]
+        feeds += [blocks[:16] + bytes([count]) + blocks[17:] for count in (0, 1, blocks[16] + 1, 64, 65, 255)]
         for number, given in enumerate(feeds):
             with self.subTest(number=number):
                 self.assertEqual(lines(self.mounted, given), lines(self.second, given))
@@ -63,21 +72,31 @@ class Examples(unittest.TestCase):
         self.assertEqual(lines(build("case-cpp", made)), lines(self.case))
 
     def test_the_page_shows_the_case(self):
-        with open(os.path.join(ROOT, "docs", "MOUNTING.md"), encoding="utf-8") as file:
-            shown = re.findall(r"```c\n(.*?)```", file.read(), re.S)
+        shown = re.findall(r"```c\n(.*?)```", page("MOUNTING.md"), re.S)
         with open(os.path.join(EXAMPLES, "case.c"), encoding="utf-8") as file:
             self.assertEqual(shown, [file.read()])
 
+    def test_the_page_shows_a_train_in_blocks(self):
+        """Its lines open the session of which the page tells."""
+        section = page("MOUNTING.md").split("## A train in blocks\n")[1].split("\n## ")[0]
+        snippet = os.path.join(built.place(), "snippet.h")
+        with open(snippet, "w", encoding="utf-8") as file:
+            file.write("\n".join(re.findall(r"^    .*$", section, re.M)) + "\n")
+        made = os.path.join(built.place(), "manifest.o")
+        subprocess.run([*built.COMPILE, *FLAGS, '-DSNIPPET="%s"' % snippet, "-c", "-o", made, MANIFEST], check=True)
+        self.assertEqual(lines(build("manifest", made)), b"0 0 1 1 14520\n1 0 1 1 14549\n")
+        self.assertIn("14,520 ft", section)
 
-    def test_the_paper_has_the_session_of_the_case(self):
-        """docs/RECORDS.md shows the bytes that an opening leaves."""
-        with open(os.path.join(ROOT, "docs", "RECORDS.md"), encoding="utf-8") as file:
-            consist, session = (bytes.fromhex(words) for words in re.findall(
-                r"^\| (?:consist|session)[^|]*\| `([0-9A-F ]+)` \|$", file.read(), re.M))
-        standin = built.library("standin.so", *FLAGS, STANDIN, EXPECTED, built.SECOND)
-        room = ctypes.create_string_buffer(b"\xa5" * 50, 50)
-        self.assertEqual(standin.buongilach_open(room, ctypes.c_size_t(50), consist, ctypes.c_size_t(16)), 0)
-        self.assertEqual(room.raw, session + b"\xa5" * 9)
+    def test_the_paper_has_the_sessions_just_opened(self):
+        """docs/RECORDS.md shows the bytes that an opening leaves, without blocks and with."""
+        standin = built.library("standin.so", *FLAGS, *STANDIN, *EXPECTED, built.SECOND)
+        shown = [bytes.fromhex(words) for words in re.findall(
+            r"^\| (?:manifest, the )?(?:consist|session)[^|]*\| `([0-9A-F ]+)` \|$", page("RECORDS.md"), re.M)]
+        self.assertEqual([len(each) for each in shown], [16, 41, 24, 53])
+        for consist, session in (shown[:2], shown[2:]):
+            room = ctypes.create_string_buffer(b"\xa5" * 310, 310)
+            self.assertEqual(standin.buongilach_open(room, ctypes.c_size_t(310), consist, ctypes.c_size_t(len(consist))), 0)
+            self.assertEqual(room.raw, session.ljust(SESSION_BYTES, b"\0") + b"\xa5" * 9)
 
 
 class Hostile(unittest.TestCase):
@@ -96,10 +115,12 @@ class Hostile(unittest.TestCase):
         self.assertRegex(done.stdout, rb"^hostile: \d+ calls, 0 faults; ")
 
     def test_every_planted_fault_is_found(self):
-        with open(STANDIN, encoding="utf-8") as file:
-            faults = re.findall(r'planted\("(.*?)"\)', file.read())
-        self.assertGreater(len(faults), 20)
-        for fault in faults:
+        faults = []
+        for name in STANDIN:
+            with open(name, encoding="utf-8") as file:
+                faults += re.findall(r'planted\("(.*?)"\)', file.read())
+        self.assertGreater(len(faults), 50)
+        for fault in dict.fromkeys(faults):
             with self.subTest(fault=fault):
                 done = self.run_hostile(fault)
                 self.assertEqual(done.returncode, 1)

@@ -2,6 +2,7 @@
 
 import ctypes
 import os
+import random
 import shutil
 import unittest
 
@@ -9,8 +10,9 @@ import built
 from here import ROOT, example, examples, feeds
 
 PLAIN = os.path.join(ROOT, "bench", "plain.c")
+GROUND = os.path.join(ROOT, "tests", "ground.c")
 # More than either program's session.
-SESSION_BYTES = 1024
+SESSION_BYTES = 8192
 
 
 def parts(data):
@@ -38,6 +40,20 @@ def answers(opened, judged, data):
     return said
 
 
+def slipped(case, name, old, new, source):
+    """A library of plain C with one of the walk's lines changed."""
+    folder = os.path.join(built.place(), name)
+    shutil.copytree(os.path.join(ROOT, "bench"), os.path.join(folder, "bench"))
+    shutil.copytree(os.path.join(ROOT, "tests"), os.path.join(folder, "tests"))
+    path = os.path.join(folder, "bench", "plain", "walk.c")
+    with open(path) as file:
+        words = file.read()
+    case.assertEqual(words.count(old), 1)
+    with open(path, "w") as file:
+        file.write(words.replace(old, new))
+    return built.library(name + ".so", os.path.join(folder, source))
+
+
 class Alike(unittest.TestCase):
 
     @classmethod
@@ -50,8 +66,9 @@ class Alike(unittest.TestCase):
                 != answers(self.second.second_open, self.second.second_judge, data))
 
     def test_random_feeds(self):
-        given = [data for data in (feeds.random_feed(seed) for seed in range(400)) if parts(data)]
-        self.assertGreater(len(given), 200)
+        made = [feeds.random_feed(seed) for seed in range(400)] + [feeds.random_feed(seed, "manifest") for seed in range(60)]
+        given = [data for data in made if parts(data)]
+        self.assertGreater(len(given), 260)
         for place, data in enumerate(given):
             with self.subTest(place=place):
                 self.assertFalse(self.difference(self.plain, data))
@@ -68,18 +85,6 @@ class Alike(unittest.TestCase):
                 with self.subTest(name=name):
                     self.assertFalse(self.difference(self.plain, data))
 
-    def slipped(self, number, old, new):
-        """Plain C with one of the walk's lines changed."""
-        folder = os.path.join(built.place(), "slip-%d" % number)
-        shutil.copytree(os.path.join(ROOT, "bench"), folder)
-        path = os.path.join(folder, "plain", "walk.c")
-        with open(path) as file:
-            words = file.read()
-        self.assertEqual(words.count(old), 1)
-        with open(path, "w") as file:
-            file.write(words.replace(old, new))
-        return built.library("slip-%d.so" % number, os.path.join(folder, "plain.c"))
-
     def test_a_slip_is_seen(self):
         """The comparison can fail: a penalty at equality, on the case of document 01; emergency past its board alone, and
         with 10 in place of 12; the first crossing kept, and a cut walk with locations, on R-2's vectors."""
@@ -90,8 +95,113 @@ class Alike(unittest.TestCase):
                 ("if (q > speed * speed)", "if (q > speed * speed && location == NO_STOP)", "figures/rise-past-target"),
                 ("q > 0 && i < targets->records", "false && i < targets->records", "figures/cut-below-target"))):
             with self.subTest(new=new):
-                slip = self.slipped(number, old, new)
+                slip = slipped(self, "slip-%d" % number, old, new, "bench/plain.c")
                 self.assertTrue(self.difference(slip, feeds.make(example(name))))
+
+
+def average(blocks, weight, sums, times):
+    """By weight: each block's share rounded down, and their total over the weight."""
+    shares = sum(load * times * feet // length for (length, load), feet in zip(blocks, sums))
+    return shares // weight
+
+
+class Train:
+    """A train in blocks, or in none, on its ground; what lies under it foot by foot."""
+
+    def __init__(self, blocks, ground, head, in_blocks=True):
+        self.blocks, self.ground, self.head = blocks, ground, head
+        self.length, self.weight = (sum(numbers) for numbers in zip(*blocks))
+        self.in_blocks = in_blocks
+
+    def sums(self, place):
+        """Of grades or curvatures under each block."""
+        at, found = self.head, []
+        for length, _ in self.blocks:
+            found.append(sum(self.under(foot)[place] for foot in range(at - length, at)))
+            at -= length
+        return found
+
+    def under(self, foot):
+        return [record for record in self.ground if record[0] <= foot][-1]
+
+    def expected(self):
+        blocks = self.blocks if self.in_blocks else [(self.length, self.weight)]
+        grades, curvatures = self.sums(1), self.sums(2)
+        if not self.in_blocks:
+            grades, curvatures = [sum(grades)], [sum(curvatures)]
+        return average(blocks, self.weight, grades, 100), average(blocks, self.weight, curvatures, 1)
+
+    def plain(self, library, near=0):
+        made = feeds.Feed({"cars": 1, "axles": 4, "weight": self.weight, "length": self.length, "rated": 0, "application": 1000,
+                           "recharge": 1, "set": 7000, "offset": 0})
+        made.blocks = self.blocks if self.in_blocks else []
+        made.profile = self.ground
+        consist, profile, _, _ = feeds.split(made.bytes())
+        averages = (ctypes.c_int64 * 2)()
+        refused = library.ground_of(consist, ctypes.c_size_t(len(consist)), profile[2:], ctypes.c_size_t(len(profile) - 2),
+                                    ctypes.c_int64(self.head), ctypes.c_int(near), averages)
+        return None if refused else tuple(averages)
+
+
+# Empties in front of loads, across a sag.
+SAG = Train([(3000, 600), (3000, 5400)], [(0, -100, 30, 0), (10000, 100, 7, 0), (60000, 0, 0, 0)], 13000)
+# A few feet of grade under each half, of which the shares keep nothing.
+SPECKS = [(0, 0, 0, 0), (750, 1, 0, 0), (751, 0, 0, 0), (900, 1, 0, 0), (902, 0, 0, 0), (50000, 0, 0, 0)]
+HALVES = Train([(150, 500), (150, 500)], SPECKS, 1000)
+# A foot of descent under each block: shares of -20 and -10.5, whose total over the weight is -3.1.
+DIPS = [(0, 0, 0, 0), (950, -1, 0, 0), (951, 0, 0, 0), (990, -1, 0, 0), (991, 0, 0, 0), (50000, 0, 0, 0)]
+UNEVEN = Train([(30, 6), (38, 4)], DIPS, 1000)
+
+
+def random_train(draw):
+    count = draw.choice((1, 2, 3, 7, 64))
+    blocks = [(draw.randint(1, draw.choice((3, 60))), draw.randint(1, draw.choice((3, 400)))) for _ in range(count)]
+    # a consist has 50 ft and 10 tons at least
+    blocks.append((50, 10))
+    blocks = blocks[-64:]
+    starts = sorted(draw.sample(range(1, 6000), draw.randint(1, 200)))
+    ground = [(start, draw.randint(-500, 500), draw.randint(0, 2000), 0) for start in [0, *starts]] + [(60000, 0, 0, 0)]
+    length = sum(feet for feet, _ in blocks)
+    return Train(blocks, ground, length + draw.randint(0, 5000), draw.random() < 0.8)
+
+
+class Averages(unittest.TestCase):
+    """Grade and curvature under a train, to the last unit."""
+
+    @classmethod
+    def setUpClass(cls):
+        cls.plain = built.library("ground.so", GROUND)
+
+    def test_figures(self):
+        self.assertEqual(SAG.plain(self.plain)[0], -8000)
+        self.assertEqual(Train(SAG.blocks, SAG.ground, 13000, False).plain(self.plain)[0], 0)
+        self.assertEqual(HALVES.plain(self.plain)[0], 0)
+        for train in (Train(HALVES.blocks, SPECKS, 1000, False), Train([(300, 1000)], SPECKS, 1000)):
+            self.assertEqual(train.plain(self.plain)[0], 1)
+
+    def test_random_trains(self):
+        draw = random.Random(1)
+        for number in range(200):
+            train = random_train(draw)
+            with self.subTest(number=number):
+                self.assertEqual(train.plain(self.plain, draw.randrange(256)), train.expected())
+
+    def test_a_slip_is_seen(self):
+        """Tail end first, a share toward zero, the total toward zero, the 100 behind the shares, the total over the length."""
+        for number, (old, new, train) in enumerate((
+                ("int64_t length = train->block_length[i], weight = train->block_weight[i];",
+                 "int64_t length = train->block_length[train->blocks - 1 - i], weight = train->block_weight[train->blocks - 1 - i];",
+                 SAG),
+                ("down(100 * weight * (ahead.grade - behind.grade), length)",
+                 "100 * weight * (ahead.grade - behind.grade) / length", UNEVEN),
+                ("{ down(shares.grade, train->weight),", "{ shares.grade / train->weight,", UNEVEN),
+                ("down(100 * weight * (ahead.grade - behind.grade), length)",
+                 "100 * down(weight * (ahead.grade - behind.grade), length)", UNEVEN),
+                ("{ down(shares.grade, train->weight),", "{ down(shares.grade, train->length),", UNEVEN))):
+            with self.subTest(new=new):
+                slip = slipped(self, "ground-%d" % number, old, new, "tests/ground.c")
+                self.assertEqual(train.plain(self.plain), train.expected())
+                self.assertNotEqual(train.plain(slip), train.expected())
 
 
 if __name__ == "__main__":

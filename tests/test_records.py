@@ -17,6 +17,10 @@ CASE = {
     "decision, the penalty's": [0x44, 1, 0, 1, 1, 5032],
     "decision, emergency's": [0x45, 1, 0, 0, 0, 5032],
 }
+# the train of the paper's blocks
+MANIFEST = [100, 400, 6000, 6000, 300000, 60000, 50, 9000, 0]
+BLOCKS = [3000, 600, 0, 3000, 5400, 0]
+SESSION_MOST = 301
 
 
 def paper():
@@ -58,9 +62,10 @@ class Records(unittest.TestCase):
                     self.assertEqual((first, last), (at, at + int(row[1]) - 1))
                 at = last + 1
             self.assertEqual(at, 8 * count, name)
-        self.assertEqual(names, ["consist", "profile", "targets", "sample", "decision", "session"])
+        self.assertEqual(names, ["consist", "block", "profile", "targets", "sample", "decision", "session"])
 
     def test_the_tools_have_the_same_layouts(self):
+        self.assertEqual(widths("block"), list(records.BLOCK_WIDTHS))
         self.assertEqual(widths("profile"), list(records.PROFILE_WIDTHS))
         self.assertEqual(widths("targets"), list(records.TARGET_WIDTHS))
         self.assertEqual(widths("sample"), list(records.SAMPLE_WIDTHS))
@@ -74,16 +79,33 @@ class Records(unittest.TestCase):
                 each = widths(name.split(",")[0])
                 self.assertEqual(records.unpack(bytes_of(name), each * (len(values) // len(each))), values)
 
+    def assert_sealed(self, data, check):
+        """The check word: the sum of the bytes, and of their running sums."""
+        running = [sum(data[:count]) for count in range(1, len(data) + 1)]
+        self.assertEqual(records.unpack(check, [16, 16]), [running[-1] % 65536, sum(running) % 65536])
+
     def test_the_session_is_sealed(self):
         session = bytes_of("session")
         self.assertEqual(session[21:37], bytes_of("consist"))
-        running = [sum(session[:count]) for count in range(1, 38)]
-        self.assertEqual(records.unpack(session[37:], [16, 16]), [running[-1] % 65536, sum(running) % 65536])
+        self.assert_sealed(session[:37], session[37:])
 
     def test_the_session_as_opened(self):
-        """Mark, hold and A, the set pressure; all else before the consist is 0."""
-        values = records.unpack(bytes_of("session")[:21], widths("session")[:-3])
-        self.assertEqual(values, [0x4255, 0, 0, 0, 0, 9000, 9000, 0, 0, 0, 0, 0, 0])
+        """Mark, blocks, hold and A, the set pressure; all else before the consist is 0."""
+        for name, blocks in (("session", 0x55), ("manifest, the session", 2)):
+            values = records.unpack(bytes_of(name)[:21], widths("session")[:-3])
+            self.assertEqual(values, [0x42, blocks, 0, 0, 0, 0, 9000, 9000, 0, 0, 0, 0, 0, 0])
+
+    def test_a_train_in_blocks(self):
+        consist, session = bytes_of("manifest, the consist"), bytes_of("manifest, the session")
+        self.assertEqual(records.unpack(consist[:16], widths("consist")), MANIFEST)
+        self.assertEqual(records.unpack(consist[16:], widths("block") * 2), BLOCKS)
+        self.assertEqual((session[21:37], session[41:49]), (consist[:16], consist[16:]))
+        self.assert_sealed(session[:37], session[37:41])
+        self.assert_sealed(session[41:49], session[49:])
+
+    def test_the_most_bytes_of_a_session(self):
+        self.assertEqual(SESSION_MOST, 41 + records.BLOCK_BYTES * records.MOST_BLOCKS + 4)
+        self.assertIn("%d at most" % SESSION_MOST, paper())
 
 
 if __name__ == "__main__":

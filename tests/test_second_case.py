@@ -59,7 +59,8 @@ class Examples(unittest.TestCase):
 
     def test_where_hundredths_answer_otherwise(self):
         # R-11 (02).  A crest's average is -1 in either unit, and the train stops at the same step.
-        self.assertEqual(self.otherwise(HUNDREDTHS), ["rolling-hills", "trip", "figures/finer-grade",
+        self.assertEqual(self.otherwise(HUNDREDTHS), ["manifest", "rolling-hills", "trip", "figures/finer-grade",
+                                                      "figures/manifest-one-block", "figures/manifest-sag",
                                                       "figures/rise-past-target", "figures/trip-no-call"])
 
     def test_finer_grade_in_hundredths(self):

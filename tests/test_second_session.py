@@ -54,6 +54,7 @@ class Calls(unittest.TestCase):
     """second_open and second_judge."""
 
     PARTS = feeds.split(made(CASE, targets="target 5531 speed 0"))
+    CONSIST = PARTS[0][:16]
 
     def judge(self, session, sample, output, size=None, profile=None, targets=None):
         profile = self.PARTS[1][2:] if profile is None else profile
@@ -65,7 +66,7 @@ class Calls(unittest.TestCase):
 
     def opened(self):
         session = Session()
-        self.assertEqual(core().second_open(ctypes.byref(session), self.PARTS[0],
+        self.assertEqual(core().second_open(ctypes.byref(session), self.CONSIST,
                                             ctypes.c_size_t(16)), 0)
         return session
 
@@ -75,8 +76,8 @@ class Calls(unittest.TestCase):
         self.assertEqual((held.state, held.hold, held.a, held.b, held.equalization, held.fall,
                           session.cause, session.emergency), (0, 9000, 9000, 0, 0, 0, 0, 0))
         before = bytes(session)
-        for data, number in ((b"", 2), (self.PARTS[0][:15], 2), (self.PARTS[0] + b"\0", 2),
-                             (bytes(16), 4)):
+        for data, number in ((b"", 2), (self.CONSIST[:15], 2), (bytes(16), 4), (bytes(17), 4),
+                             (self.CONSIST + b"\0", 13)):
             self.assertEqual(core().second_open(ctypes.byref(session), data,
                                                 ctypes.c_size_t(len(data))), number)
             self.assertEqual(bytes(session), before)

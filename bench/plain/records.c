@@ -10,9 +10,28 @@ static int64_t field(uint64_t *left, int width)
     return value;
 }
 
+/* 0, or 13. */
+static int read_blocks(const uint8_t *bytes, size_t count, plain_consist *train)
+{
+    int64_t length = 0, weight = 0;
+    if (count % BLOCK_BYTES != 0 || count > PLAIN_BLOCKS * BLOCK_BYTES)
+        return 13;
+    train->blocks = (int)(count / BLOCK_BYTES);
+    for (int i = 0; i < train->blocks; i++) {
+        uint64_t block = word(bytes + i * BLOCK_BYTES, BLOCK_BYTES);
+        train->block_length[i] = (uint16_t)(block >> 17);
+        train->block_weight[i] = (uint16_t)(block >> 2 & 0x7FFF);
+        if ((block & 3) != 0 || train->block_length[i] == 0 || train->block_weight[i] == 0)
+            return 13;
+        length += train->block_length[i];
+        weight += train->block_weight[i];
+    }
+    return count > 0 && (length != train->length || weight != train->weight) ? 13 : 0;
+}
+
 static int read_consist(const uint8_t *bytes, size_t count, plain_consist *train)
 {
-    if (count != CONSIST_BYTES)
+    if (count < CONSIST_BYTES)
         return 2;
     /* 9, 11, 15, 15 and 14 of rated's 24 bits; then its other 10 and the rest */
     uint64_t high = word(bytes, 8), low = word(bytes + 8, 8);
@@ -36,7 +55,9 @@ static int read_consist(const uint8_t *bytes, size_t count, plain_consist *train
         || train->set < 7000 || train->set > 11000
         || train->offset > 4000)
         return 4;
-    return train->weight < 10 * train->cars ? 5 : 0;
+    if (train->weight < 10 * train->cars)
+        return 5;
+    return read_blocks(bytes + CONSIST_BYTES, count - CONSIST_BYTES, train);
 }
 
 /* The totals of grade and curvature x feet up to record i's start. */

@@ -2,24 +2,57 @@
  * walk.c - the walk along a brake curve, and which targets call.
  */
 
-/* A place on the profile: its record, and the totals up to it. */
+/* Grade and curvature: x feet up to a location, or averages under the train. */
 typedef struct {
-    int record;
     int64_t grade, curve;
-} place;
+} ground;
 
-/* To a location, from the place that was last there. */
-static void move(const profile_read *profile, int64_t location, place *to)
+/* The totals up to a location, which is looked for from where it was last; it is not before the profile. */
+static ground totals(const profile_read *profile, int64_t location, size_t *near)
 {
-    int k = to->record;
+    size_t k = *near;
     while (k > 0 && profile->start[k] > location)
         k--;
-    while (k + 1 < profile->records && profile->start[k + 1] <= location)
+    while (k + 1 < (size_t)profile->records && profile->start[k + 1] <= location)
         k++;
-    int64_t feet = greatest(location - profile->start[k], 0);
-    to->record = k;
-    to->grade = profile->grade_total[k] + profile->grade[k] * feet;
-    to->curve = profile->curve_total[k] + profile->curve[k] * feet;
+    int64_t feet = location - profile->start[k];
+    *near = k;
+    return (ground){ profile->grade_total[k] + profile->grade[k] * feet,
+                     profile->curve_total[k] + profile->curve[k] * feet };
+}
+
+/* Evenly. */
+static ground under_train(const profile_read *profile, const plain_consist *train, int64_t head,
+                          size_t *near)
+{
+    ground ahead = totals(profile, head, &near[0]);
+    ground behind = totals(profile, head - train->length, &near[1]);
+    return (ground){ down(100 * (ahead.grade - behind.grade), train->length),
+                     (ahead.curve - behind.curve) / train->length };
+}
+
+/* By weight: what lies under each block, from the head on. */
+static ground under_blocks(const profile_read *profile, const plain_consist *train, int64_t head,
+                           size_t *near)
+{
+    ground shares = { 0, 0 }, ahead = totals(profile, head, &near[0]);
+    for (int i = 0; i < train->blocks; i++) {
+        int64_t length = train->block_length[i], weight = train->block_weight[i];
+        head -= length;
+        ground behind = totals(profile, head, &near[i + 1]);
+        shares.grade += down(100 * weight * (ahead.grade - behind.grade), length);
+        shares.curve += weight * (ahead.curve - behind.curve) / length;
+        ahead = behind;
+    }
+    return (ground){ down(shares.grade, train->weight), shares.curve / train->weight };
+}
+
+/* `near` has the records that the ends of train or blocks were in last, from head to rear. */
+static ground under_head(const profile_read *profile, const plain_consist *train, int64_t head,
+                         size_t *near)
+{
+    return train->blocks == 0 ? under_train(profile, train, head, near)
+                              : under_blocks(profile, train, head, near);
 }
 
 static brake_curve service_curve(const plain_consist *train, const plain_brakes *brakes)
@@ -67,7 +100,7 @@ static void predict(const plain_consist *train, const brake_curve *by, const sam
                     const profile_read *profile, const targets_read *targets, prediction *found)
 {
     int64_t head = sample->head, q = sample->speed * sample->speed, t = 0;
-    place front = { 0, 0, 0 }, rear = { 0, 0, 0 };
+    size_t near[PLAIN_BLOCKS + 1] = { 0 };
 
     for (int i = 0; i < targets->records; i++)
         found->location[i] = NO_STOP;
@@ -77,10 +110,8 @@ static void predict(const plain_consist *train, const brake_curve *by, const sam
         if (q <= 0 || step == STEPS)
             break;
         int64_t s = root(q);
-        move(profile, head, &front);
-        move(profile, head - train->length, &rear);
-        q -= loss(train, brake_force(train, by, t), s, q, down(100 * (front.grade - rear.grade), train->length),
-                  (front.curve - rear.curve) / train->length);
+        ground under = under_head(profile, train, head, near);
+        q -= loss(train, brake_force(train, by, t), s, q, under.grade, under.curve);
         t += 12000000 / (11 * s);
         head += STEP_FEET;
     }

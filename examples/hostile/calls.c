@@ -66,12 +66,14 @@ unsigned try_open(part session_before, part consist_given, uint8_t *opened)
 {
     uint8_t due[BUONGILACH_SESSION_BYTES];
     unsigned wanted = expected_open(session_before.count, consist_given, due);
+    hold(expected_alike(consist_given), "the second program", "judges a consist otherwise");
     lend(&session, session_before);
     lend(&consist, consist_given);
     unsigned answer = buongilach_open(session.bytes, session.count, consist.bytes, consist.count);
     hold_answer(answer, wanted, "open");
     hold_read(&consist, "open");
     hold_written(&session, due, wanted == 0 ? sizeof due : 0, "open");
+    tried.openings[answer < 14 ? answer : 0]++;
     if (answer == 0) {
         hold(buongilach_is_open(session.bytes, session.count), "is_open", "denies an opened session");
         if (opened != NULL)
@@ -98,18 +100,39 @@ static bool has_sped_up(const second_session *before, const second_session *afte
     return hundredths_of_speed() <= (double)second_bits(target, 24, 16);
 }
 
+/* Whether the same train with its weight spread evenly would be decided otherwise. */
+static bool is_otherwise(const expected_session *before)
+{
+    uint8_t even[BUONGILACH_SESSION_BYTES], next[BUONGILACH_SESSION_BYTES], decisions[BUONGILACH_BOTH_DECISIONS_BYTES];
+    expected_even(before, even);
+    unsigned answer = expected_sample(part_of(even, sizeof even), part_of(sample.bytes, sample.count),
+                                      part_of(profile.bytes, profile.count), part_of(targets.bytes, targets.count),
+                                      sizeof decisions, next, decisions);
+    return answer == 0 && memcmp(decisions, out.bytes, sizeof decisions) != 0;
+}
+
+static void count_blocks(const expected_session *before)
+{
+    if (before->consist_bytes == BUONGILACH_CONSIST_BYTES)
+        return;
+    tried.in_blocks++;
+    tried.otherwise += is_otherwise(before);
+}
+
 /* The library's answer and the session that follows, counted; `before` is the one that it was lent. */
 static void count_sample(unsigned answer, part before, uint8_t *next)
 {
-    tried.answers[answer < 13 ? answer : 0]++;
+    tried.answers[answer < 14 ? answer : 0]++;
     if (answer != 0)
         return;
-    second_session held, was;
+    expected_session held, was;
     hold(buongilach_is_open(session.bytes, session.count), "is_open", "denies the session after a sample");
     if (expected_held(part_of(session.bytes, session.count), &held) && expected_held(before, &was)) {
-        tried.states[held.brakes.state]++;
-        tried.called[held.brakes.state] += was.emergency == 0 && held.emergency != 0;
-        tried.sped_up += has_sped_up(&was, &held);
+        tried.states[held.now.brakes.state]++;
+        tried.called[held.now.brakes.state] += was.now.emergency == 0 && held.now.emergency != 0;
+        tried.sped_up += has_sped_up(&was.now, &held.now);
+        if (next != NULL)
+            count_blocks(&was);
     }
     if (out.count >= BUONGILACH_DECISION_BYTES)
         tried.unstopped += second_bits(out.bytes, 40, 24) == BUONGILACH_NO_STOP;
@@ -158,6 +181,15 @@ void try_judges(part consist_given, part sample_given, part profile_given, part 
     hold_read(&targets, "judge_targets");
 }
 
+void try_consist(part consist_given, unsigned due)
+{
+    lend(&consist, consist_given);
+    hold(expected_judge_consist(consist_given) == due, "the papers", "judge a consist otherwise than it was made");
+    hold(expected_alike(consist_given), "the second program", "judges a consist otherwise");
+    hold_answer(buongilach_judge_consist(consist.bytes, consist.count), due, "judge_consist");
+    hold_read(&consist, "judge_consist");
+}
+
 unsigned try_write_consist(const uint32_t *fields, part out_before)
 {
     uint8_t due[BUONGILACH_CONSIST_BYTES];
@@ -168,6 +200,27 @@ unsigned try_write_consist(const uint32_t *fields, part out_before)
                                                (uint16_t)fields[7], (uint16_t)fields[8], out.bytes, out.count);
     hold_answer(answer, wanted, "write_consist");
     hold_written(&out, due, wanted == 0 ? sizeof due : 0, "write_consist");
+    return answer;
+}
+
+unsigned try_write_manifest(const uint32_t *fields, part lengths, part weights, part out_before)
+{
+    uint8_t due[BUONGILACH_CONSIST_BYTES_MOST];
+    unsigned wanted = expected_write_manifest(fields, lengths, weights, out_before.count, due);
+    lend_numbers(&first, lengths, sizeof(uint16_t));
+    lend_numbers(&second, weights, sizeof(uint16_t));
+    lend(&out, out_before);
+    unsigned answer = buongilach_write_manifest((uint16_t)fields[0], (uint16_t)fields[1], (uint16_t)fields[2],
+                                                (uint16_t)fields[3], fields[4], fields[5], (uint16_t)fields[6],
+                                                (uint16_t)fields[7], (uint16_t)fields[8],
+                                                (const uint16_t *)(const void *)first.bytes, lengths.count,
+                                                (const uint16_t *)(const void *)second.bytes, weights.count, out.bytes,
+                                                out.count);
+    hold_answer(answer, wanted, "write_manifest");
+    hold_read(&first, "write_manifest");
+    hold_read(&second, "write_manifest");
+    hold_written(&out, due, wanted == 0 ? BUONGILACH_CONSIST_BYTES + lengths.count * BUONGILACH_BLOCK_BYTES : 0,
+                 "write_manifest");
     return answer;
 }
 

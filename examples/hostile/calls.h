@@ -9,11 +9,14 @@
 /* What was tried, and what was wrong. */
 typedef struct {
     unsigned long calls, faults;
-    unsigned long answers[13]; /* of sample calls */
+    unsigned long answers[14]; /* of sample calls */
+    unsigned long openings[14];
     unsigned long states[6];   /* of accepted ones */
     unsigned long unstopped;   /* accepted without a stop */
     unsigned long called[6];   /* accepted ones that called emergency, by state */
     unsigned long sped_up;     /* accepted ones that stop, and called the penalty for a target that allows their speed */
+    unsigned long in_blocks;   /* accepted ones of trains with blocks, whose session goes on */
+    unsigned long otherwise;   /* of these, decided otherwise than an even spread of the weight would be */
 } tally;
 
 extern tally tried;
@@ -26,7 +29,11 @@ unsigned try_open(part session, part consist, uint8_t *opened);
 unsigned try_sample(part session, part sample, part profile, part targets, part decisions, uint8_t *next);
 void try_version(void);
 void try_judges(part consist, part sample, part profile, part targets);
+
+/* A consist that is known to be judged so, by the library, by the papers and by the second program. */
+void try_consist(part consist, unsigned due);
 unsigned try_write_consist(const uint32_t *fields, part out);
+unsigned try_write_manifest(const uint32_t *fields, part lengths, part weights, part out);
 unsigned try_write_profile(part starts, part grades, part curvatures, part out);
 unsigned try_write_targets(part locations, part speeds, part out);
 unsigned try_write_sample(const uint32_t *fields, part out);

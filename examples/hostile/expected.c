@@ -5,40 +5,79 @@
 
 #include <string.h>
 
-enum { MARK = 0x4255, MOST_PRESSURE = 16000, MOST_B = 9434, MOST_FALL = 3142, MOST_CAUSE = 8, BITS_24 = 1 << 24 };
+enum { MARK = 0x42, NO_BLOCKS = 0x55, MOST_PRESSURE = 16000, MOST_B = 9434, MOST_FALL = 3142, MOST_CAUSE = 8, BITS_24 = 1 << 24 };
 
 /* ---- the session's record */
 
-/* Where each field begins, and its width: mark, cause, emergency, sampled, state, hold, A, B, equalization, fall, last front, last
- * rear and last time; the consist follows at byte 21, the check word at byte 37. */
-enum { FIELDS = 13, HELD_CONSIST = 21, HELD_CHECK = 37 };
-static const int held_at[FIELDS] = {0, 16, 20, 24, 25, 32, 48, 64, 80, 96, 112, 128, 144};
-static const int held_width[FIELDS] = {16, 4, 4, 1, 7, 16, 16, 16, 16, 16, 16, 16, 24};
+/* Where each field begins, and its width: mark, its second byte, cause, emergency, sampled, state, hold, A, B, equalization, fall,
+ * last front, last rear and last time; the consist's 16 bytes follow at byte 21, their check word at byte 37, and where there are
+ * blocks these at byte 41, with a check word of their own behind them. */
+enum { FIELDS = 14, HELD_CONSIST = 21, HELD_CHECK = 37, HELD_BLOCKS = 41, CHECK_BYTES = 4 };
+static const int held_at[FIELDS] = {0, 8, 16, 20, 24, 25, 32, 48, 64, 80, 96, 112, 128, 144};
+static const int held_width[FIELDS] = {8, 8, 4, 4, 1, 7, 16, 16, 16, 16, 16, 16, 16, 24};
 
 static int64_t held_field(const uint8_t *bytes, int place)
 {
     return second_bits(bytes, held_at[place], held_width[place]);
 }
 
+size_t expected_blocks(const uint8_t *session)
+{
+    return session[1] <= BUONGILACH_BLOCKS_MOST ? session[1] : 0;
+}
+
+size_t expected_record(const uint8_t *session)
+{
+    size_t count = expected_blocks(session);
+    return count == 0 ? HELD_BLOCKS : HELD_BLOCKS + count * BUONGILACH_BLOCK_BYTES + CHECK_BYTES;
+}
+
 /* The bytes' sum, and the sum that counts each as often as there are bytes from it on, both modulo 2 to the 16th. */
-static int64_t check_of(const uint8_t *bytes, int count)
+static int64_t check_of(const uint8_t *bytes, size_t count)
 {
     int64_t sum = 0, weighed = 0;
-    for (int i = 0; i < count; i++) {
+    for (size_t i = 0; i < count; i++) {
         sum += bytes[i];
         weighed += (int64_t)(count - i) * bytes[i];
     }
     return sum % 65536 * 65536 + weighed % 65536;
 }
 
-void expected_seal(uint8_t *bytes)
+/* The check word that follows so many bytes. */
+static void seal(uint8_t *bytes, size_t count)
 {
-    second_put_bits(bytes + HELD_CHECK, 0, 32, check_of(bytes, HELD_CHECK));
+    second_put_bits(bytes + count, 0, 32, check_of(bytes, count));
 }
 
-static bool is_sealed(const uint8_t *bytes)
+static bool is_sealed(const uint8_t *bytes, size_t count)
 {
-    return second_bits(bytes + HELD_CHECK, 0, 32) == check_of(bytes, HELD_CHECK);
+    return second_bits(bytes + count, 0, 32) == check_of(bytes, count);
+}
+
+void expected_seal_front(uint8_t *session)
+{
+    seal(session, HELD_CHECK);
+}
+
+void expected_seal_blocks(uint8_t *session)
+{
+    size_t count = expected_blocks(session);
+    if (count > 0)
+        seal(session + HELD_BLOCKS, count * BUONGILACH_BLOCK_BYTES);
+}
+
+void expected_seal(uint8_t *session)
+{
+    expected_seal_front(session);
+    expected_seal_blocks(session);
+}
+
+/* Mark, count and check words of the record that stands there. */
+static bool is_record(const uint8_t *session)
+{
+    size_t count = expected_blocks(session);
+    return held_field(session, 0) == MARK && (count > 0 || held_field(session, 1) == NO_BLOCKS) && is_sealed(session, HELD_CHECK)
+        && (count == 0 || is_sealed(session + HELD_BLOCKS, count * BUONGILACH_BLOCK_BYTES));
 }
 
 /* A and B together, by state (crates/brake/specs/Sound.antt, `isBalanced`). */
@@ -86,74 +125,92 @@ static bool is_session(const second_session *session)
 
 static void read_brakes(const uint8_t *bytes, second_brakes *k)
 {
-    k->state = held_field(bytes, 4);
-    k->hold = held_field(bytes, 5);
-    k->a = held_field(bytes, 6);
-    k->b = held_field(bytes, 7);
-    k->equalization = held_field(bytes, 8);
-    k->fall = held_field(bytes, 9);
-    k->last_front = held_field(bytes, 10);
-    k->last_rear = held_field(bytes, 11);
-    k->last_time = held_field(bytes, 12);
+    k->state = held_field(bytes, 5);
+    k->hold = held_field(bytes, 6);
+    k->a = held_field(bytes, 7);
+    k->b = held_field(bytes, 8);
+    k->equalization = held_field(bytes, 9);
+    k->fall = held_field(bytes, 10);
+    k->last_front = held_field(bytes, 11);
+    k->last_rear = held_field(bytes, 12);
+    k->last_time = held_field(bytes, 13);
 }
 
-bool expected_held(part bytes, second_session *session)
+/* The consist's bytes, as an opening is given them. */
+static void take_consist(const uint8_t *at, expected_session *session)
+{
+    size_t blocks_bytes = expected_blocks(at) * BUONGILACH_BLOCK_BYTES;
+    memcpy(session->consist, at + HELD_CONSIST, BUONGILACH_CONSIST_BYTES);
+    memcpy(session->consist + BUONGILACH_CONSIST_BYTES, at + HELD_BLOCKS, blocks_bytes);
+    session->consist_bytes = BUONGILACH_CONSIST_BYTES + blocks_bytes;
+}
+
+bool expected_held(part bytes, expected_session *session)
 {
     const uint8_t *at = bytes.bytes;
-    if (bytes.count < BUONGILACH_SESSION_BYTES || held_field(at, 0) != MARK || !is_sealed(at))
+    second_session *now = &session->now;
+    if (bytes.count < BUONGILACH_SESSION_BYTES || !is_record(at))
         return false;
-    memset(session, 0, sizeof *session);
-    session->open = 1;
-    session->cause = held_field(at, 1);
-    session->emergency = held_field(at, 2);
-    session->begun = (int)held_field(at, 3);
-    read_brakes(at, &session->brakes);
-    return second_read_consist(at + HELD_CONSIST, BUONGILACH_CONSIST_BYTES, &session->train) == 0 && is_session(session);
+    take_consist(at, session);
+    if (expected_judge_consist(part_of(session->consist, session->consist_bytes)) != 0
+        || second_open(now, session->consist, session->consist_bytes) != 0)
+        return false;
+    now->cause = held_field(at, 2);
+    now->emergency = held_field(at, 3);
+    now->begun = (int)held_field(at, 4);
+    read_brakes(at, &now->brakes);
+    return is_session(now);
 }
 
-static void put_consist(const second_consist *train, uint8_t *record)
+void expected_bytes(const expected_session *session, uint8_t *bytes)
 {
-    const int64_t fields[9] = {train->cars, train->axles, train->weight, train->length, train->rated,
-                               train->application, train->recharge, train->set, train->offset};
-    static const int widths[9] = {9, 11, 15, 15, 24, 18, 10, 14, 12};
-    int at = 0;
-    for (int i = 0; i < 9; i++) {
-        second_put_bits(record, at, widths[i], fields[i]);
-        at += widths[i];
-    }
-}
-
-void expected_bytes(const second_session *session, uint8_t *bytes)
-{
-    const second_brakes *k = &session->brakes;
-    const int64_t fields[FIELDS] = {MARK, session->cause, session->emergency, session->begun, k->state, k->hold, k->a,
-                                    k->b, k->equalization, k->fall, k->last_front, k->last_rear, k->last_time};
+    const second_session *now = &session->now;
+    const second_brakes *k = &now->brakes;
+    size_t blocks_bytes = session->consist_bytes - BUONGILACH_CONSIST_BYTES;
+    size_t count = blocks_bytes / BUONGILACH_BLOCK_BYTES;
+    const int64_t fields[FIELDS] = {MARK, count == 0 ? NO_BLOCKS : (int64_t)count, now->cause, now->emergency, now->begun,
+                                    k->state, k->hold, k->a, k->b, k->equalization, k->fall, k->last_front, k->last_rear,
+                                    k->last_time};
+    memset(bytes, 0, BUONGILACH_SESSION_BYTES);
     for (int i = 0; i < FIELDS; i++)
         second_put_bits(bytes, held_at[i], held_width[i], fields[i]);
-    put_consist(&session->train, bytes + HELD_CONSIST);
+    memcpy(bytes + HELD_CONSIST, session->consist, BUONGILACH_CONSIST_BYTES);
+    memcpy(bytes + HELD_BLOCKS, session->consist + BUONGILACH_CONSIST_BYTES, blocks_bytes);
     expected_seal(bytes);
+}
+
+void expected_even(const expected_session *session, uint8_t *bytes)
+{
+    expected_session even = *session;
+    even.consist_bytes = BUONGILACH_CONSIST_BYTES;
+    expected_bytes(&even, bytes);
 }
 
 /* ---- the session */
 
 unsigned expected_open(size_t room, part consist, uint8_t *session)
 {
-    second_session opened;
-    unsigned refusal = (unsigned)second_open(&opened, consist.bytes, consist.count);
-    if (refusal != 0)
+    expected_session opened;
+    unsigned refusal = expected_judge_consist(consist);
+    if (refusal != 0 && refusal < 12)
         return refusal;
     if (room < BUONGILACH_SESSION_BYTES)
         return 12;
+    if (refusal != 0)
+        return refusal;
+    memcpy(opened.consist, consist.bytes, consist.count);
+    opened.consist_bytes = consist.count;
+    second_open(&opened.now, consist.bytes, consist.count);
     expected_bytes(&opened, session);
     return 0;
 }
 
 unsigned expected_sample(part session, part sample, part profile, part targets, size_t room, uint8_t *next, uint8_t *decisions)
 {
-    second_session held;
+    expected_session held;
     if (!expected_held(session, &held))
         return 1;
-    unsigned refusal = (unsigned)second_judge(&held, sample.bytes, sample.count, profile.bytes, profile.count, targets.bytes,
+    unsigned refusal = (unsigned)second_judge(&held.now, sample.bytes, sample.count, profile.bytes, profile.count, targets.bytes,
                                               targets.count, decisions, room);
     if (refusal == 0)
         expected_bytes(&held, next);
@@ -161,26 +218,6 @@ unsigned expected_sample(part session, part sample, part profile, part targets, 
 }
 
 /* ---- the records */
-
-unsigned expected_judge_consist(part consist)
-{
-    second_consist train;
-    return (unsigned)second_read_consist(consist.bytes, consist.count, &train);
-}
-
-unsigned expected_write_consist(const uint32_t *fields, size_t room, uint8_t *record)
-{
-    /* past its field's width a number is out of its range, too: the widest below 32 bits */
-    static const uint32_t ends[9] = {1 << 9, 1 << 11, 1 << 15, 1 << 15, 1 << 24, 1 << 18, 1 << 10, 1 << 14, 1 << 12};
-    for (int i = 0; i < 9; i++)
-        if (fields[i] >= ends[i])
-            return 4;
-    second_consist train = {fields[0], fields[1], fields[2], fields[3], fields[4], fields[5], fields[6], fields[7], fields[8]};
-    put_consist(&train, record);
-    part written = {record, BUONGILACH_CONSIST_BYTES};
-    unsigned refusal = expected_judge_consist(written);
-    return refusal != 0 ? refusal : room < BUONGILACH_CONSIST_BYTES ? 12 : 0;
-}
 
 unsigned expected_judge_profile(part profile)
 {

@@ -1,6 +1,6 @@
 /*
  * expected.h - what each function of buongilach.h must answer and write, from the second program's rules and the session's
- * layout. Nothing here calls the library.
+ * layout. Consists are judged here, by the papers alone. Nothing here calls the library.
  */
 #ifndef EXPECTED_H
 #define EXPECTED_H
@@ -10,24 +10,48 @@
 
 #include "buongilach.h"
 
-/* Whether the front of the bytes is an open session's record, and that session. */
-bool expected_held(part bytes, second_session *session);
+/* The second program's session, with the consist's bytes: how it holds blocks is its own affair. */
+typedef struct {
+    second_session now;
+    uint8_t consist[BUONGILACH_CONSIST_BYTES_MOST];
+    size_t consist_bytes;
+} expected_session;
 
-/* The 41 bytes of a session, open or not. */
-void expected_bytes(const second_session *session, uint8_t *bytes);
+/* Whether an open session's record stands at the front of the bytes, and that session. */
+bool expected_held(part bytes, expected_session *session);
 
-/* Puts the check word of the 37 bytes before it. */
-void expected_seal(uint8_t *bytes);
+/* The 301 bytes of a session, open or not: its record, and zeros. */
+void expected_bytes(const expected_session *session, uint8_t *bytes);
+
+/* The same session of a train whose weight is spread evenly. */
+void expected_even(const expected_session *session, uint8_t *bytes);
+
+/* How many blocks the second byte of a record's mark tells: none for a byte that is no count. */
+size_t expected_blocks(const uint8_t *session);
+
+/* How many bytes that record has. */
+size_t expected_record(const uint8_t *session);
+
+/* Puts the check words right: of the front, the record's first 41 bytes; of the blocks behind it; of both. */
+void expected_seal_front(uint8_t *session);
+void expected_seal_blocks(uint8_t *session);
+void expected_seal(uint8_t *session);
 
 /* Each answers the refusal or 0; the bytes that an accepted call writes are in the last arguments. */
 unsigned expected_open(size_t room, part consist, uint8_t *session);
 unsigned expected_sample(part session, part sample, part profile, part targets, size_t room, uint8_t *next, uint8_t *decisions);
 
-/* cars, axles, weight, length, rated, application, recharge, set, offset */
-unsigned expected_write_consist(const uint32_t *fields, size_t room, uint8_t *record);
 unsigned expected_judge_consist(part consist);
 
-/* The three and two parts hold uint32_t, int16_t and uint16_t; their counts are of elements. */
+/* Whether the second program judges the consist so, too. */
+bool expected_alike(part consist);
+
+/* cars, axles, weight, length, rated, application, recharge, set, offset; the two parts hold uint16_t, and their counts are of
+ * elements, in what follows too */
+unsigned expected_write_consist(const uint32_t *fields, size_t room, uint8_t *record);
+unsigned expected_write_manifest(const uint32_t *fields, part lengths, part weights, size_t room, uint8_t *record);
+
+/* The three and two parts hold uint32_t, int16_t and uint16_t. */
 unsigned expected_write_profile(part starts, part grades, part curvatures, size_t room, uint8_t *records);
 unsigned expected_judge_profile(part profile);
 unsigned expected_write_targets(part locations, part speeds, size_t room, uint8_t *records);

@@ -1,8 +1,8 @@
 /*
- * hostile.c - runs the C library on what a careless or hostile host may lend it: buffers of every size, sessions with each byte
- * changed to each value, two bytes changed, the check word put right after a change, random bytes everywhere; trains that run
- * away, trains that speed up again on ups and downs, and trains that run past a board, with other targets afterwards. Each answer
- * and every lent byte is held to the second program's rules.
+ * hostile.c - runs the C library on what a careless or hostile host may lend it: buffers of every size, consists with blocks that
+ * break a rule, sessions with each byte changed to each value, two bytes changed, the check word put right after a change, random
+ * bytes everywhere; trains with blocks and without, that run away, speed up again on ups and downs, or run past a board, with
+ * other targets afterwards. Each answer and every lent byte is held to the second program's rules.
  *
  *     tools/cc-mounted target/hostile -DSECOND_NO_MAIN examples/hostile/[a-z]*.c second/second.c
  *     tools/launch --static target/hostile [--denormals-are-zero] [SEED [TIMES]]
@@ -11,6 +11,7 @@
  * which it takes denormals as zero and makes none. It prints one line of counts. Exit status 0: no fault, and everything that can
  * occur did. It ends early where there are faults.
  */
+#include "consists.h"
 #include "made.h"
 #include "records.h"
 #include "sessions.h"
@@ -25,10 +26,12 @@
 enum {
     TRIPS = 300,
     RUNAWAYS = 6,
-    HILLS = 40,
+    HILLS = 100,
     BOARDS_A_STATE = 30,
     SAMPLES = 15,
     SIZED_TRIPS = 3,
+    LONGEST_SESSION = SESSION_ROOM,
+    LONGEST_CONSIST = BUONGILACH_CONSIST_BYTES_MOST + 10,
     LONGEST_PROFILE = 1600
 };
 
@@ -65,14 +68,14 @@ static void offer_damaged(const trip *t)
         second_put_bits(room[1], 64 + 32 * (int)made_below(3), 32, reading);
     }
     try_sample(parts[0], parts[1], parts[2], parts[3], parts[4], NULL);
-    try_judges(part_of(t->consist, sizeof t->consist), parts[1], parts[2], parts[3]);
+    try_judges(part_of(t->consist, t->consist_bytes), parts[1], parts[2], parts[3]);
 }
 
 static void run_trips(void)
 {
     static trip t;
     for (int i = 0; i < TRIPS; i++) {
-        trip_begin(&t, i % 10 == 0 ? FAST : 2 * SLOW);
+        trip_begin(&t, i % 10 == 0 ? FAST : 2 * SLOW, ANY_BLOCKS);
         for (int j = 0; j < SAMPLES; j++) {
             offer_damaged(&t);
             trip_go(&t);
@@ -95,12 +98,12 @@ static void run_runaways(void)
     }
 }
 
-/* Walks that speed up again, before targets that the train is not faster than. */
+/* Walks that speed up again, before targets that the train is not faster than, and such as blocks make longer or shorter. */
 static void run_hills(void)
 {
     static trip t;
     for (int i = 0; i < HILLS; i++) {
-        trip_over_hills(&t);
+        trip_over_hills(&t, i % 2 == 0 ? ANY_BLOCKS : FEW_BLOCKS);
         for (int j = 0; j < 3; j++) {
             offer_damaged(&t);
             trip_go(&t);
@@ -114,7 +117,7 @@ static void run_boards(void)
     static trip t;
     for (unsigned state = 0; state < 6; state++)
         for (int i = 0; i < BOARDS_A_STATE; i++) {
-            if (trip_to_state(&t, state, 2 * SLOW))
+            if (trip_to_state(&t, state, 2 * SLOW, ANY_BLOCKS))
                 trip_to_board(&t);
             for (int j = 0; j < 3; j++) {
                 trip_go(&t);
@@ -126,6 +129,7 @@ static void run_boards(void)
 
 /* ---- every size of each lent buffer */
 
+/* Each size twice, so that the buffer lies at both sides of its room. */
 static void try_sizes_of(const trip *t, int place, size_t longest)
 {
     static uint8_t room[LENT_MOST];
@@ -133,35 +137,46 @@ static void try_sizes_of(const trip *t, int place, size_t longest)
     const part whole[5] = {part_of(t->session, t->session_bytes), part_of(t->sample, sizeof t->sample),
                            part_of(t->profile, t->profile_bytes), part_of(t->targets, t->targets_bytes),
                            part_of(decisions, BUONGILACH_BOTH_DECISIONS_BYTES)};
-    for (size_t size = 0; size <= longest; size++) {
+    for (size_t turn = 0; turn < 2 * (longest + 1); turn++) {
         part parts[5];
         memcpy(parts, whole, sizeof parts);
-        parts[place] = resized(room, whole[place].bytes, whole[place].count, size);
+        parts[place] = resized(room, whole[place].bytes, whole[place].count, turn / 2);
         try_sample(parts[0], parts[1], parts[2], parts[3], parts[4], NULL);
-        try_judges(part_of(t->consist, sizeof t->consist), parts[1], parts[2], parts[3]);
+        try_judges(part_of(t->consist, t->consist_bytes), parts[1], parts[2], parts[3]);
     }
 }
 
 static void try_sizes_of_opening(const trip *t)
 {
-    uint8_t room[LONGEST];
-    for (size_t size = 0; size <= LONGEST; size++) {
-        try_open(made_part(size), part_of(t->consist, sizeof t->consist), NULL);
-        part consist = resized(room, t->consist, sizeof t->consist, size);
-        try_open(made_part(made_below(LONGEST)), consist, NULL);
-        try_judges(consist, made_part(size), made_part(size), made_part(size));
+    static uint8_t room[LENT_MOST];
+    for (size_t turn = 0; turn < 2 * (LONGEST_SESSION + 1); turn++)
+        try_open(made_part(turn / 2), part_of(t->consist, t->consist_bytes), NULL);
+    for (size_t size = 0; size <= LONGEST_CONSIST; size++) {
+        part consist = resized(room, t->consist, t->consist_bytes, size);
+        try_open(made_part(made_once_in(4) ? made_below(LONGEST_SESSION) : BUONGILACH_SESSION_BYTES), consist, NULL);
+        try_judges(consist, made_part(size % LONGEST), made_part(size % LONGEST), made_part(size % LONGEST));
     }
+}
+
+static size_t longest(int place)
+{
+    return place == 0 ? LONGEST_SESSION : place == 2 ? LONGEST_PROFILE : LONGEST;
+}
+
+static void try_sizes(const trip *t)
+{
+    for (int place = 0; place < 5; place++)
+        try_sizes_of(t, place, longest(place));
+    try_sizes_of_opening(t);
 }
 
 static void run_sizes(void)
 {
+    static const block_range *const wanted[SIZED_TRIPS] = {&NO_BLOCKS, &FEW_BLOCKS, &MOST_BLOCKS};
     static trip t;
-    for (int i = 0; i < SIZED_TRIPS; i++) {
-        bool reached = trip_to_state(&t, made_below(6), SLOW);
-        for (int place = 0; reached && place < 5; place++)
-            try_sizes_of(&t, place, place == 2 ? LONGEST_PROFILE : LONGEST);
-        try_sizes_of_opening(&t);
-    }
+    for (int i = 0; i < SIZED_TRIPS; i++)
+        if (trip_to_state(&t, made_below(6), SLOW, *wanted[i]))
+            try_sizes(&t);
 }
 
 /* ---- the whole */
@@ -175,35 +190,76 @@ static void touched(int signal_number)
     _exit(1);
 }
 
-/* Every answer of a sample call, every state and a call of emergency in it, trains that run away and such as speed up again, sealed
- * changes of both kinds, and a denormal below zero. */
+static bool each_seen(const unsigned long *answers, const int *due, size_t count)
+{
+    for (size_t i = 0; i < count; i++)
+        if (answers[due[i]] == 0)
+            return false;
+    return true;
+}
+
+/* Sealed changes and moves that leave an open session, and such as do not; damage before the blocks, among them and past them. */
+static bool changes_seen(void)
+{
+    const change *const both[] = {&changed.sealed_front, &changed.moved};
+    for (size_t i = 0; i < sizeof both / sizeof *both; i++)
+        if (both[i]->open == 0 || both[i]->shut == 0)
+            return false;
+    return changed.front.shut > 0 && changed.blocks.shut > 0 && changed.past.open > 0 && changed.sealed_blocks.shut > 0;
+}
+
+/* Every answer of an opening and of a sample call, every state and a call of emergency in it, trains that run away, such as speed
+ * up again, and such as their blocks decide, every kind of consist and of change, and a denormal below zero. */
 static bool all_seen(void)
 {
-    static const int answers[] = {0, 1, 2, 3, 6, 7, 8, 9, 10, 12};
-    for (size_t i = 0; i < sizeof answers / sizeof *answers; i++)
-        if (tried.answers[answers[i]] == 0)
-            return false;
+    static const int answers[] = {0, 1, 2, 3, 6, 7, 8, 9, 10, 12}, openings[] = {0, 2, 4, 5, 12, 13};
     for (int i = 0; i < 6; i++)
         if (tried.states[i] == 0 || tried.called[i] == 0)
             return false;
-    return run_away > 0 && tried.sped_up > 0 && changed.damaged_shut > 0 && changed.sealed_open > 0 && changed.sealed_shut > 0 && made_below_zero > 0;
+    return each_seen(tried.answers, answers, sizeof answers / sizeof *answers)
+        && each_seen(tried.openings, openings, sizeof openings / sizeof *openings) && run_away > 0 && tried.sped_up > 0
+        && tried.otherwise > 0 && consists_all_seen() && changes_seen() && made_below_zero > 0;
+}
+
+/* Nothing that was changed in a byte or two of its record is open, and nothing is shut by a byte past it. */
+static bool changes_found(void)
+{
+    return changed.front.open == 0 && changed.blocks.open == 0 && changed.past.shut == 0;
+}
+
+static void print_numbered(const unsigned long *counts, int first, int end)
+{
+    for (int i = first; i < end; i++)
+        if (counts[i] > 0)
+            printf(" %d:%lu", i, counts[i]);
+}
+
+static void print_change(const char *what, change kind)
+{
+    printf("; %s %lu open, %lu not", what, kind.open, kind.shut);
 }
 
 static void print_counts(void)
 {
     printf("hostile: %lu calls, %lu faults; samples accepted %lu (states", tried.calls, tried.faults, tried.answers[0]);
-    for (int i = 0; i < 6; i++)
-        printf(" %d:%lu", i, tried.states[i]);
+    print_numbered(tried.states, 0, 6);
     printf("), refused");
-    for (int i = 1; i <= 12; i++)
-        if (tried.answers[i] > 0)
-            printf(" %d:%lu", i, tried.answers[i]);
+    print_numbered(tried.answers, 1, 14);
     printf("; emergency called");
-    for (int i = 0; i < 6; i++)
-        printf(" %d:%lu", i, tried.called[i]);
-    printf("; running away %lu; speeding up again %lu; denormals below zero %lu", run_away, tried.sped_up, made_below_zero);
-    printf("; sessions with one byte or two changed %lu open, %lu not; with a byte changed and sealed %lu open, %lu not\n",
-           changed.damaged_open, changed.damaged_shut, changed.sealed_open, changed.sealed_shut);
+    print_numbered(tried.called, 0, 6);
+    printf("; running away %lu; speeding up again %lu; with blocks %lu, otherwise than without %lu; denormals below zero %lu",
+           run_away, tried.sped_up, tried.in_blocks, tried.otherwise, made_below_zero);
+    printf("; openings");
+    print_numbered(tried.openings, 0, 14);
+    printf("; consists");
+    consists_print();
+    print_change("sessions with one byte or two of the front changed", changed.front);
+    print_change("of the blocks", changed.blocks);
+    print_change("a byte past them", changed.past);
+    print_change("a byte of the front changed and sealed", changed.sealed_front);
+    print_change("a bit of the blocks", changed.sealed_blocks);
+    print_change("blocks moved or counted anew and sealed", changed.moved);
+    printf("\n");
 }
 
 /* As a program that GCC links with -ffast-math has it from its start. */
@@ -230,7 +286,8 @@ int main(int count, char **words)
     unsigned long long seed = count > 1 ? strtoull(words[1], NULL, 10) : 1;
     unsigned long times = count > 2 ? strtoul(words[2], NULL, 10) : 1;
     /* the longest last: a fault that another finds is found soon */
-    void (*const runs[])(void) = {run_trips, run_runaways, run_hills, run_boards, run_records, run_sizes, run_noise, run_flips};
+    void (*const runs[])(void) = {run_consists, run_trips, run_runaways, run_hills, run_boards,
+                                  run_records,  run_sizes, run_noise,    run_flips};
     calls_make();
     try_version();
     for (unsigned long i = 0; i < times; i++) {
@@ -240,8 +297,8 @@ int main(int count, char **words)
     }
     print_counts();
     if (!all_seen())
-        fprintf(stderr, "hostile: an answer, a state, a call of emergency, a runaway, a train that speeds up again or a kind of change never occurred\n");
-    if (changed.damaged_open > 0)
-        fprintf(stderr, "hostile: one byte or two were changed, and the session counted as open\n");
-    return tried.faults == 0 && changed.damaged_open == 0 && all_seen() ? 0 : 1;
+        fprintf(stderr, "hostile: an answer, a state, a kind of train, of consist or of change never occurred\n");
+    if (!changes_found())
+        fprintf(stderr, "hostile: a byte or two of a record were changed, and it counted as open, or a byte past it counted\n");
+    return tried.faults == 0 && changes_found() && all_seen() ? 0 : 1;
 }

@@ -24,9 +24,8 @@ void lent_make(lent *buffer)
 
 void lend(lent *buffer, part content)
 {
-    static unsigned turn;
-    turn++;
-    bool low = turn % 2 == 0;
+    buffer->turn++;
+    bool low = buffer->turn % 2 == 0;
     buffer->count = content.count;
     buffer->bytes = low ? buffer->room : buffer->room + LENT_PAGE - content.count;
     buffer->guard = low ? buffer->bytes + content.count : buffer->bytes - LENT_GUARD;
@@ -34,7 +33,7 @@ void lend(lent *buffer, part content)
     if (content.count > 0) {
         memcpy(buffer->bytes, content.bytes, content.count);
         memcpy(buffer->was, content.bytes, content.count);
-    } else if (turn % 3 == 0) {
+    } else if (buffer->turn % 3 == 0) {
         buffer->bytes = NULL;
     }
 }

@@ -28,12 +28,13 @@ typedef struct {
     uint8_t *bytes; /* null in some calls where the count is 0 */
     size_t count;
     uint8_t *guard;
+    unsigned turn; /* how often it was lent */
     uint8_t was[LENT_MOST];
 } lent;
 
 void lent_make(lent *buffer);
 
-/* Fills the buffer with the part, at another place from call to call. */
+/* Fills the buffer with the part, at the one side and at the other by turns. */
 void lend(lent *buffer, part content);
 
 /* The guard bytes are as they were. */

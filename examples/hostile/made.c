@@ -108,6 +108,45 @@ void made_consist(uint8_t *record, uint32_t *length)
     second_put_bits(record, 116, 12, made_between(0, 4000));
 }
 
+void made_parts(uint16_t *parts, size_t count, uint32_t whole)
+{
+    uint32_t left = whole - (uint32_t)count;
+    for (size_t i = 0; i < count; i++) {
+        uint32_t even = left / (uint32_t)(count - i);
+        uint32_t more = i + 1 == count ? left : made_once_in(3) ? 0 : made_below(2 * even + 1);
+        parts[i] = (uint16_t)(1 + more);
+        left -= more;
+    }
+}
+
+/* A number of the range, mostly none or a few, now and then many or the most. */
+static uint32_t made_count(uint32_t least, uint32_t most)
+{
+    uint32_t count = made_once_in(2) ? 0 : made_once_in(16) ? 64 : made_below(made_once_in(16) ? 65 : 6);
+    return count < least ? least : count > most ? most : count;
+}
+
+static void put_block(uint8_t *record, int64_t length, int64_t weight)
+{
+    second_put_bits(record, 0, 15, length);
+    second_put_bits(record, 15, 15, weight);
+    second_put_bits(record, 30, 2, 0);
+}
+
+size_t made_blocks(uint8_t *consist, uint32_t least, uint32_t most)
+{
+    uint16_t lengths[64], weights[64];
+    uint32_t weight = (uint32_t)second_bits(consist, 20, 15), length = (uint32_t)second_bits(consist, 35, 15);
+    uint32_t shortest = length < weight ? length : weight;
+    uint32_t count = made_count(least, most);
+    count = count > shortest ? shortest : count;
+    made_parts(lengths, count, length);
+    made_parts(weights, count, weight);
+    for (uint32_t i = 0; i < count; i++)
+        put_block(consist + 16 + 4 * i, lengths[i], weights[i]);
+    return 16 + 4 * count;
+}
+
 static void put_segment(uint8_t *record, int64_t start, int64_t grade, int64_t curvature)
 {
     second_put_bits(record, 0, 24, start);

@@ -31,6 +31,12 @@ extern unsigned long made_below_zero;
 /* A consist in its ranges, a train that brakes well; its length in *length. */
 void made_consist(uint8_t *record, uint32_t *length);
 
+/* So many parts of a whole, each at least 1 and often just that. */
+void made_parts(uint16_t *parts, size_t count, uint32_t whole);
+
+/* Blocks behind a consist's 16 bytes, so many if its feet and tons allow them; the answer is the bytes of both. */
+size_t made_blocks(uint8_t *consist, uint32_t least, uint32_t most);
+
 /* A profile that covers a train of that length with its head there; the answer is its bytes. */
 size_t made_profile(uint8_t *records, uint32_t head, uint32_t length);
 

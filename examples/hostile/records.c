@@ -8,6 +8,23 @@
 
 enum { RECORDS = 20000 };
 
+/* Two lists of any numbers, or of parts of the train. */
+static void try_writer_of_manifests(const uint32_t *consist)
+{
+    enum { MOST = 70 };
+    static uint16_t lengths[MOST], weights[MOST];
+    uint32_t count = made_once_in(8) ? 60 + made_below(10) : made_below(5);
+    if (count <= consist[2] && count <= consist[3]) {
+        made_parts(lengths, count, consist[3]);
+        made_parts(weights, count, consist[2]);
+    }
+    if (made_once_in(4) && count > 0)
+        lengths[made_below(count)] = (uint16_t)made_below(65536);
+    uint32_t other = made_once_in(8) ? made_below(MOST) : count;
+    size_t room = made_once_in(4) ? made_below(LONGEST) : 14 + 4 * count + made_below(8);
+    try_write_manifest(consist, part_of(lengths, count), part_of(weights, other), made_part(room));
+}
+
 static void try_writer_of_consists(void)
 {
     static const uint32_t least[9] = {1, 2, 10, 50, 0, 1000, 1, 7000, 0};
@@ -19,6 +36,7 @@ static void try_writer_of_consists(void)
     if (!made_once_in(4) && consist[2] < 10 * consist[0])
         consist[2] = 10 * consist[0];
     try_write_consist(consist, made_part(made_below(LONGEST)));
+    try_writer_of_manifests(consist);
 }
 
 /* Any number but 0, often one that a narrower type would cut to 0. */

@@ -9,29 +9,26 @@
 #include <string.h>
 
 enum {
-    FLIPPED_A_STATE = 2,
     PAIRS = 10000, /* of changed bytes, a session */
-    NOISES = 20000
+    MOVES = 2000,  /* of feet and tons, from block to block */
+    NOISES = 20000,
+    FRONT = 41,    /* the bytes of a record before its blocks */
+    CHECK = 4
 };
 
 changes changed;
 
 /* ---- a session's record, changed */
 
-/* Whether the library takes these bytes for an open session's, with all else as the trip has it. */
-static bool opens(const trip *t, const uint8_t *session)
+/* Counts whether the library takes these bytes for an open session's, with all else as the trip has it. */
+static void count_change(change *kind, const trip *t, const uint8_t *session)
 {
     uint8_t decisions[BUONGILACH_BOTH_DECISIONS_BYTES] = {0};
-    return try_sample(part_of(session, t->session_bytes), part_of(t->sample, sizeof t->sample),
-                      part_of(t->profile, t->profile_bytes), part_of(t->targets, t->targets_bytes),
-                      part_of(decisions, sizeof decisions), NULL)
-        != BUONGILACH_NO_SESSION;
-}
-
-static void count_damaged(bool open)
-{
-    changed.damaged_open += open;
-    changed.damaged_shut += !open;
+    unsigned answer = try_sample(part_of(session, t->session_bytes), part_of(t->sample, sizeof t->sample),
+                                 part_of(t->profile, t->profile_bytes), part_of(t->targets, t->targets_bytes),
+                                 part_of(decisions, sizeof decisions), NULL);
+    kind->shut += answer == BUONGILACH_NO_SESSION;
+    kind->open += answer != BUONGILACH_NO_SESSION;
 }
 
 /* Each byte of the record at each other value. */
@@ -39,58 +36,131 @@ static void try_flips(const trip *t)
 {
     uint8_t session[SESSION_ROOM];
     memcpy(session, t->session, sizeof session);
-    for (size_t place = 0; place < BUONGILACH_SESSION_BYTES; place++) {
-        for (int change = 1; change < 256; change++) {
-            session[place] = t->session[place] ^ (uint8_t)change;
-            count_damaged(opens(t, session));
+    for (size_t place = 0; place < expected_record(t->session); place++) {
+        for (int value = 1; value < 256; value++) {
+            session[place] = t->session[place] ^ (uint8_t)value;
+            count_change(place < FRONT ? &changed.front : &changed.blocks, t, session);
         }
         session[place] = t->session[place];
     }
 }
 
-/* Two bytes at other values. */
+/* Two bytes at other values; where there are blocks, both in the front, both behind it, and one in each. */
 static void try_pairs(const trip *t)
 {
+    uint32_t bytes = (uint32_t)expected_record(t->session);
     for (int i = 0; i < PAIRS; i++) {
         uint8_t session[SESSION_ROOM];
         memcpy(session, t->session, sizeof session);
-        uint32_t first = made_below(BUONGILACH_SESSION_BYTES);
-        uint32_t step = 1 + made_below(BUONGILACH_SESSION_BYTES - 1);
-        session[first] ^= (uint8_t)(1 + made_below(255));
-        session[(first + step) % BUONGILACH_SESSION_BYTES] ^= (uint8_t)(1 + made_below(255));
-        count_damaged(opens(t, session));
+        uint32_t place = made_once_in(2) ? made_below(FRONT) : made_below(bytes);
+        uint32_t other = (place + 1 + made_below(bytes - 1)) % bytes;
+        session[place] ^= (uint8_t)(1 + made_below(255));
+        session[other] ^= (uint8_t)(1 + made_below(255));
+        count_change(place < FRONT && other < FRONT ? &changed.front : &changed.blocks, t, session);
     }
 }
 
-/* Each byte at each value, and the check word put right: what only the session's rules tell from an open one. */
-static void try_sealed(const trip *t)
+/* Each byte past the record at another value, which nobody reads. */
+static void try_past(const trip *t)
 {
     uint8_t session[SESSION_ROOM];
-    for (size_t place = 0; place < BUONGILACH_SESSION_BYTES - 4; place++)
+    for (size_t place = expected_record(t->session); place < t->session_bytes; place++) {
+        memcpy(session, t->session, sizeof session);
+        session[place] ^= (uint8_t)(1 + made_below(255));
+        count_change(&changed.past, t, session);
+    }
+}
+
+/* Each byte of the front at each value, and the check word put right: what only the rules tell from an open session. */
+static void try_sealed_front(const trip *t)
+{
+    uint8_t session[SESSION_ROOM];
+    for (size_t place = 0; place < FRONT - CHECK; place++)
         for (int value = 0; value < 256; value++) {
             memcpy(session, t->session, sizeof session);
             session[place] = (uint8_t)value;
             expected_seal(session);
-            bool open = opens(t, session);
-            changed.sealed_open += open;
-            changed.sealed_shut += !open;
+            count_change(&changed.sealed_front, t, session);
         }
+}
+
+/* Each bit of the blocks turned over, the same. */
+static void try_sealed_blocks(const trip *t)
+{
+    uint8_t session[SESSION_ROOM];
+    for (size_t place = FRONT; place < expected_record(t->session) - CHECK; place++)
+        for (int bit = 0; bit < 8; bit++) {
+            memcpy(session, t->session, sizeof session);
+            session[place] ^= (uint8_t)(1 << bit);
+            expected_seal(session);
+            count_change(&changed.sealed_blocks, t, session);
+        }
+}
+
+/* A number of a block made so much greater, in its 15 bits. */
+static void add_to(uint8_t *block, int at, int64_t more)
+{
+    second_put_bits(block, at, 15, (second_bits(block, at, 15) + more) & 32767);
+}
+
+/* Feet or tons that go from a block to another leave the sums right: an open session's, but where a block has none left. */
+static void try_moves(const trip *t)
+{
+    uint32_t count = (uint32_t)expected_blocks(t->session);
+    for (int i = 0; count > 1 && i < MOVES; i++) {
+        uint8_t session[SESSION_ROOM];
+        memcpy(session, t->session, sizeof session);
+        int at = made_once_in(2) ? 0 : 15;
+        uint32_t from = made_below(count), to = (from + 1 + made_below(count - 1)) % count;
+        int64_t whole = second_bits(session + FRONT + 4 * from, at, 15);
+        int64_t moved = whole - made_below(2) - (made_once_in(2) ? made_below((uint32_t)whole) : 0);
+        add_to(session + FRONT + 4 * from, at, -moved);
+        add_to(session + FRONT + 4 * to, at, moved);
+        expected_seal(session);
+        count_change(&changed.moved, t, session);
+    }
+}
+
+/* Fewer blocks than there were, or more, under check words that are right. */
+static void try_counts(const trip *t)
+{
+    for (int count = 0; count < 256; count++) {
+        uint8_t session[SESSION_ROOM];
+        memcpy(session, t->session, sizeof session);
+        session[1] = (uint8_t)count;
+        expected_seal(session);
+        count_change(&changed.moved, t, session);
+    }
+}
+
+/* The front's rules are the same with blocks behind it: with the check word put right they are tried without. */
+static void try_changes(const trip *t)
+{
+    try_flips(t);
+    try_pairs(t);
+    try_past(t);
+    try_counts(t);
+    if (expected_blocks(t->session) == 0) {
+        try_sealed_front(t);
+    } else {
+        try_sealed_blocks(t);
+        try_moves(t);
+    }
 }
 
 void run_flips(void)
 {
     static trip t;
-    trip_begin(&t, SLOW);
-    try_flips(&t);
-    try_pairs(&t);
-    try_sealed(&t);
-    for (unsigned state = 0; state < 6; state++)
-        for (int i = 0; i < FLIPPED_A_STATE; i++)
-            if (trip_to_state(&t, state, SLOW)) {
-                try_flips(&t);
-                try_pairs(&t);
-                try_sealed(&t);
-            }
+    trip_begin(&t, SLOW, NO_BLOCKS);
+    try_changes(&t);
+    for (unsigned state = 0; state < 6; state++) {
+        if (trip_to_state(&t, state, SLOW, NO_BLOCKS))
+            try_changes(&t);
+        if (trip_to_state(&t, state, SLOW, FEW_BLOCKS))
+            try_changes(&t);
+    }
+    trip_begin(&t, SLOW, MOST_BLOCKS);
+    try_changes(&t);
 }
 
 /* ---- random sessions, and random everything */
@@ -145,33 +215,39 @@ static void random_brakes(second_session *held)
 
 static void random_session(const trip *t, uint8_t *bytes)
 {
-    second_session held;
+    expected_session held;
     if (!expected_held(part_of(t->session, t->session_bytes), &held))
         return;
     if (made_once_in(4))
-        random_opening(&held);
+        random_opening(&held.now);
     else
-        random_brakes(&held);
+        random_brakes(&held.now);
     expected_bytes(&held, bytes);
+}
+
+/* A session of the right length, mark and check words, mostly, and noise else. */
+static part noise_session(uint8_t *room)
+{
+    made_noise(room, SESSION_ROOM);
+    room[0] = 0x42;
+    if (!made_once_in(8))
+        room[1] = (uint8_t)(made_once_in(2) ? 0x55 : made_below(66));
+    if (!made_once_in(4))
+        expected_seal(room);
+    return part_of(room, made_once_in(4) ? made_below(SESSION_ROOM) : BUONGILACH_SESSION_BYTES);
 }
 
 static void try_noise(void)
 {
-    static uint8_t room[4][LONGEST];
-    part parts[4];
-    for (int i = 0; i < 4; i++) {
+    static uint8_t room[4][SESSION_ROOM];
+    part parts[4] = {noise_session(room[0])};
+    for (int i = 1; i < 4; i++) {
         made_noise(room[i], LONGEST);
         parts[i] = part_of(room[i], made_below(LONGEST));
     }
-    /* a session of the right length, mark and check word, mostly */
-    room[0][0] = 0x42;
-    room[0][1] = 0x55;
-    if (!made_once_in(4))
-        parts[0].count = BUONGILACH_SESSION_BYTES;
-    if (!made_once_in(4))
-        expected_seal(room[0]);
     try_sample(parts[0], parts[1], parts[2], parts[3], made_part(made_below(LONGEST)), NULL);
-    try_judges(part_of(room[0], 16), part_of(room[1], 20), part_of(room[2], 12), part_of(room[3], 5 * made_below(4)));
+    try_judges(part_of(room[0], 4 * made_below(12)), part_of(room[1], 20), part_of(room[2], 12),
+               part_of(room[3], 5 * made_below(4)));
 }
 
 void run_noise(void)
@@ -181,7 +257,7 @@ void run_noise(void)
     uint8_t decisions[BUONGILACH_BOTH_DECISIONS_BYTES] = {0};
     for (int i = 0; i < NOISES; i++) {
         if (i % 100 == 0)
-            trip_begin(&t, SLOW);
+            trip_begin(&t, SLOW, ANY_BLOCKS);
         trip_go(&t);
         random_session(&t, session);
         try_sample(part_of(session, sizeof session), part_of(t.sample, sizeof t.sample), part_of(t.profile, t.profile_bytes),

@@ -4,9 +4,15 @@
 #ifndef SESSIONS_H
 #define SESSIONS_H
 
-/* Records changed, and what became of them: as they stand, or with the check word put right. */
+/* What became of sessions that were changed. */
 typedef struct {
-    unsigned long damaged_shut, damaged_open, sealed_shut, sealed_open;
+    unsigned long shut, open;
+} change;
+
+/* One byte or two of the record changed, of the front or of the blocks behind it; a byte past the record; a byte of the front or a
+ * bit of the blocks with the check word put right; blocks changed together, or their count, sealed too. */
+typedef struct {
+    change front, blocks, past, sealed_front, sealed_blocks, moved;
 } changes;
 
 extern changes changed;

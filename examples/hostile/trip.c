@@ -5,6 +5,10 @@
 
 #include "made.h"
 
+enum { LONG_PROFILE = 600 };
+
+const block_range ANY_BLOCKS = {0, 64}, NO_BLOCKS = {0, 0}, FEW_BLOCKS = {1, 5}, MOST_BLOCKS = {64, 64};
+
 static void make_sample(trip *t)
 {
     bool present = !made_once_in(5);
@@ -15,6 +19,14 @@ static void make_sample(trip *t)
 static uint32_t made_speed(const trip *t)
 {
     return (uint32_t)made_between(t->slowest, t->fastest);
+}
+
+/* Behind the consist, once that has its weight. The second program looks through the whole profile for each block at each step:
+ * on a long one a fast train has few. */
+static void make_blocks(trip *t)
+{
+    bool slow = t->fastest > 2 * SLOW && t->profile_bytes > LONG_PROFILE;
+    t->consist_bytes = made_blocks(t->consist, slow ? 0 : t->blocks.least, slow ? 2 : t->blocks.most);
 }
 
 static void begin(trip *t)
@@ -30,16 +42,18 @@ static void begin(trip *t)
         made_steepest(t->consist, t->profile, t->profile_bytes);
     if (t->rolling)
         t->profile_bytes = made_rolling(t->consist, t->profile, t->head, t->length);
+    make_blocks(t);
     t->time = made_once_in(10) ? 16777210 : made_below(1000000);
     t->speed = made_speed(t);
     t->targets_bytes = t->rolling ? made_restrictions(t->targets, t->head, t->speed) : made_targets(t->targets, t->head);
     t->front = (uint32_t)made_between(7000, 11000);
     make_sample(t);
-    try_open(part_of(before, t->session_bytes), part_of(t->consist, sizeof t->consist), t->session);
+    try_open(part_of(before, t->session_bytes), part_of(t->consist, t->consist_bytes), t->session);
 }
 
-static void begin_with(trip *t, bool steepest, bool rolling, uint32_t slowest, uint32_t fastest)
+static void begin_with(trip *t, bool steepest, bool rolling, uint32_t slowest, uint32_t fastest, block_range blocks)
 {
+    t->blocks = blocks;
     t->steepest = steepest;
     t->rolling = rolling;
     t->slowest = slowest;
@@ -47,19 +61,19 @@ static void begin_with(trip *t, bool steepest, bool rolling, uint32_t slowest, u
     begin(t);
 }
 
-void trip_begin(trip *t, uint32_t fastest)
+void trip_begin(trip *t, uint32_t fastest, block_range blocks)
 {
-    begin_with(t, false, false, 0, fastest);
+    begin_with(t, false, false, 0, fastest, blocks);
 }
 
 void trip_run_away(trip *t)
 {
-    begin_with(t, true, false, 9 * FAST / 10, FAST);
+    begin_with(t, true, false, 9 * FAST / 10, FAST, ANY_BLOCKS);
 }
 
-void trip_over_hills(trip *t)
+void trip_over_hills(trip *t, block_range blocks)
 {
-    begin_with(t, false, true, SLOW / 2, 3 * SLOW);
+    begin_with(t, false, true, SLOW / 2, 3 * SLOW, blocks);
 }
 
 /* A pipe pressure that stays, sinks, falls fast or rises. */
@@ -102,15 +116,15 @@ void trip_retarget(trip *t)
     t->targets_bytes = made_targets(t->targets, t->head);
 }
 
-bool trip_to_state(trip *t, unsigned state, uint32_t fastest)
+bool trip_to_state(trip *t, unsigned state, uint32_t fastest, block_range blocks)
 {
-    second_session held;
+    expected_session held;
     for (int samples = 0; samples < 2000; samples++) {
         /* some states come only early in a trip */
         if (samples % 40 == 0)
-            trip_begin(t, fastest);
+            trip_begin(t, fastest, blocks);
         trip_go(t);
-        if (expected_held(part_of(t->session, t->session_bytes), &held) && held.begun && held.brakes.state == state)
+        if (expected_held(part_of(t->session, t->session_bytes), &held) && held.now.begun && held.now.brakes.state == state)
             return true;
     }
     return false;

@@ -17,6 +17,7 @@ def draw(data, lines):
     panels.draw_keys(picture, run)
     panels.draw_locations(picture, run, times)
     panels.draw_speeds(picture, run, times)
+    panels.draw_blocks(picture, run)
     panels.draw_band(picture, run, times)
     panels.draw_refused(picture, run, times)
     panels.draw_calls(picture, run, times)

@@ -1,7 +1,7 @@
-"""The parts of the picture: locations, speed, brake states, refused samples, the calls, the keys."""
+"""The parts of the picture: locations, speed, blocks, brake states, refused samples, the calls, the keys."""
 
-from .looks import (BAND, CALLS, CLOCK, EMERGENCY, FAINT, FAST, HEAD, INK, KEY, LABEL_GAP, LEFT, LOST, PENALTY, REFUSED,
-                    RIGHT, SPEED, STATE_KEY, STATES, STOP, TARGET, WHERE)
+from .looks import (BAND, BLOCKS, CALLS, CLOCK, EMERGENCY, FAINT, FAST, HEAD, INK, KEY, LABEL_GAP, LEFT, LOST, PENALTY, REFUSED,
+                    RIGHT, SPEED, STATE_KEY, STATES, STOP, TARGET, TONS, TRAIN, WHERE)
 from .scale import Scale, location_range, spread
 from .svg import show
 
@@ -73,6 +73,28 @@ def draw_speeds(picture, run, times):
     draw_frame(picture, scale, times, "speed, mph", 5)
     picture.path([(times.at(sample.time), scale.at(sample.speed)) for sample in run.accepted],
                  SPEED, class_="speed")
+
+
+def draw_blocks(picture, run):
+    """The train, if it has blocks, each as high as its tons a foot; the dashed line is the weight spread evenly."""
+    if not run.blocks:
+        return
+    length, weight = run.consist["length"], run.consist["weight"]
+    heaviest, even = max(tons / feet for feet, tons in run.blocks), weight / length
+    across, high = Scale(0, length, *reversed(TRAIN)), lambda tons: TONS[0] + (TONS[1] - TONS[0]) * tons / heaviest
+    behind = 0
+    for place, (feet, tons) in enumerate(run.blocks, 1):
+        begin, end, top = across.at(behind), across.at(behind + feet), high(tons / feet)
+        # a foot is to be seen, too
+        picture.add("rect", x=end, y=top, width=max(0.5, begin - end), height=TONS[0] - top, fill=BLOCKS[place % 2],
+                    class_="block", data_place=place)
+        behind += feet
+    picture.line(TRAIN[0], high(even), TRAIN[1], high(even), INK, stroke_dasharray="3 3", class_="even")
+    picture.line(TRAIN[0], TONS[0], TRAIN[1], TONS[0], INK)
+    picture.text(TRAIN[0], TONS[1] - 26, "%d block%s, tons a foot:" % (len(run.blocks), "s" * (len(run.blocks) > 1)))
+    picture.text(TRAIN[0], TONS[1] - 9, "{:,.2f} at most, {:,.2f} even".format(heaviest, even), class_="tick")
+    picture.text(TRAIN[0], TONS[0] + 16, "rear")
+    picture.text(TRAIN[1], TONS[0] + 16, "head", "end")
 
 
 def draw_band(picture, run, times):

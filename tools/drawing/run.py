@@ -46,11 +46,11 @@ class Refused:
 
 
 class Run:
-    """The consist, the targets, and the samples of both kinds."""
+    """The consist, its blocks, the targets, and the samples of both kinds."""
 
     def __init__(self, data, lines):
         self.consist = feeds.consist_of(data)
-        self.targets, samples = split(data)
+        self.blocks, self.targets, samples = split(data)
         answers = feeds.answers(lines)
         if len(answers) != len(samples):
             raise Unfit("there are lines for %d samples, and the feed has %d" % (len(answers), len(samples)))
@@ -103,13 +103,16 @@ class Run:
 
 
 def split(data):
-    """The targets as (location, speed) and the samples' bytes; the last may be short."""
+    """The blocks as (length, weight), the targets as (location, speed) and the samples' bytes; the last may be short."""
     try:
-        _, _, targets, samples = feeds.split(data)
+        consist, _, targets, samples = feeds.split(data)
     except IndexError:
         raise Unfit("the feed has no whole profile") from None
+    blocks = [(length, weight) for length, weight, _ in feeds.blocks_of(consist)]
+    if not all(length for length, _ in blocks):
+        raise Unfit("the feed has a block of no length")
     size = feeds.TARGET_BYTES
     if len(targets) <= size * targets[0]:
         raise Unfit("the feed has no whole list of targets")
-    return [tuple(feeds.unpack(targets[place:place + size], feeds.TARGET_WIDTHS))
-            for place in range(1, len(targets), size)], samples
+    targets = [tuple(feeds.unpack(targets[place:place + size], feeds.TARGET_WIDTHS)) for place in range(1, len(targets), size)]
+    return blocks, targets, samples

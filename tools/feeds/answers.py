@@ -1,10 +1,14 @@
 """What a session program prints, sample by sample.  Output that is bytes may be any program's, right or not."""
 
+import re
+
 from .binary32 import value_of
 from .records import SAMPLE_BYTES, SAMPLE_WIDTHS, consist_of, profile_of, split, unpack
 
 # Of two outputs: they part in something that the rule in question does not change.
 UNLIKE = "unlike"
+# Time and state, bit and cause, stop; no stop is the greatest number.
+DECISION = re.compile(r"(\d{1,8} [0-5]) (0 0|1 [1-8]) (\d{1,8})", re.ASCII)
 
 
 def answers(lines):
@@ -25,6 +29,32 @@ def answers_of(output):
 def first_lines(output):
     """The penalty's line of each sample, or its refusal's."""
     return [first for first, _ in answers_of(output)]
+
+
+def parted(pair, other):
+    """How much two answers to a sample part: 1 where the first alone calls the penalty, -1 where the other alone does, else 0;
+    and by how many feet the first's stop is farther.  None where they are not decisions of the same time and state."""
+    lines = [DECISION.fullmatch(line or "") for line in (*pair, *other)]
+    if not all(lines):
+        return None
+    penalty, emergency, other_penalty, other_emergency = (line.groups() for line in lines)
+    if penalty[0] != other_penalty[0] or emergency[0] != other_emergency[0]:
+        return None
+    calls, other_calls = (decision[1] != "0 0" for decision in (penalty, other_penalty))
+    return calls - other_calls, int(penalty[2]) - int(other_penalty[2])
+
+
+def differences(output, other, show, shows):
+    """How many samples another program answers otherwise, by any line; and what they show, None where the outputs are the same:
+    the first of `shows` that `show` makes of what any of them parts by.  They may be any programs', right or not."""
+    if output == other:
+        return 0, None
+    pairs, others = answers_of(output), answers_of(other)
+    found = [parted(*both) for both in zip(pairs, others) if both[0] != both[1]]
+    if not found or None in found or len(pairs) != len(others):
+        return len(found), UNLIKE
+    shown = {show(*one) for one in found}
+    return len(found), next(one for one in (UNLIKE, *shows) if one in shown)
 
 
 def places(feed, output, like):

@@ -1,5 +1,6 @@
 """Targets, stops and reaches at the very brink."""
 
+from .loads import now_and_then
 from .records import REACH, Feed
 from .trains import SURE, draw_train, sample
 from .walks import Walk
@@ -39,6 +40,7 @@ class Approach:
 
     def bytes(self):
         first = self.head - self.train["length"]
+        self.feed.blocks = now_and_then(self.draw, self.train)
         self.feed.profile = [(first, self.grade, self.curve, 0),
                              (self.end + REACH + self.draw.below(2), 0, 0, 0)]
         return self.feed.bytes()

@@ -9,10 +9,10 @@
 TEXT and FEED are file names; - is standard input.
 
 The text states one fact a line.  # begins a comment.  The parts stand in the
-order of the feed: consist, profile, targets, samples.  Numbers are whole and in
-the units of the records (feet, tons, lb, ms, hundredths of a percent, degree,
-psi and mph), decimal or 0x hexadecimal.  Only a sample's readings are in mph
-and psi with a decimal point; they become the nearest binary32.
+order of the feed: consist, blocks, profile, targets, samples.  Numbers are whole
+and in the units of the records (feet, tons, lb, ms, hundredths of a percent,
+degree, psi and mph), decimal or 0x hexadecimal.  Only a sample's readings are in
+mph and psi with a decimal point; they become the nearest binary32.
 
     cars 10                 the consist: these nine, each once, in any order
     axles 40
@@ -24,6 +24,9 @@ and psi with a decimal point; they become the nearest binary32.
     set 9000                set pressure
     offset 500              target offset
 
+    block 75 225            a block's length and weight, head end first; no block
+    block 525 775           line at all spreads the weight evenly
+
     profile 0 grade -50 curve 100
     profile 40000           a record; grade and curve are 0 where not stated
     target 5531 speed 0     a record; no target line at all is an empty list
@@ -34,9 +37,10 @@ For damaged feeds:
 
     bits 0x7fc00000         in place of any reading: its 32 bits
     lost bits 0x80000000    a rear said to be lost, with bits that are not zero
-    spare 1                 at the end of a profile or sample line
+    spare 1                 at the end of a block, profile or sample line
     mark 0x54               at the end of a sample line
     profile-count 3         the count, where it is not the number of lines
+    block-count 65
     target-count 9
     raw 53 00ff             bytes as they are, at this place in the feed
     cut                     the feed ends here, with no further count (last line)

@@ -1,7 +1,8 @@
 """Trips with damaged records, and trips that are cut."""
 
 from .binary32 import INFINITE, MINUS
-from .records import LAST_FOOT, LAST_TIME, REACH, SAMPLE_BYTES, SAMPLE_WIDTHS, consist_of, pack, split, unpack
+from .records import (CONSIST_BYTES, LAST_FOOT, LAST_TIME, REACH, SAMPLE_BYTES, SAMPLE_WIDTHS, consist_of, pack, split,
+                      unpack)
 from .trips import make_trip
 
 TOO_FAST = 0x42C80001              # the binary32 after 100.0; no wrong pressure
@@ -54,11 +55,15 @@ def damaged(draw, number):
     """Damaged records: single bits flipped, fields out of range, readings that
     are no numbers or below zero or just above the limits, wrong marks and spare
     bits, wrong times, heads outside the profile."""
-    consist, profile, targets, samples = split(
-        make_trip(draw, draw.between(5, 80), draw.between(0, 8)))
-    train = consist_of(consist)
     where = number % 10
-    if where == 3:
+    data = make_trip(draw, draw.between(5, 80), draw.between(0, 8), blocks=where == 1)
+    opening, profile, targets, samples = split(data)
+    consist, blocks = data[:CONSIST_BYTES], data[CONSIST_BYTES:len(opening) + 1]
+    train = consist_of(consist)
+    if where in (1, 8):
+        # the count, too; mostly it is the only byte of 8
+        blocks = flip(draw, blocks)
+    elif where == 3:
         consist = flip(draw, consist)
     elif where == 6:
         profile = flip(draw, profile)
@@ -70,24 +75,28 @@ def damaged(draw, number):
         if draw.chance(share) and place > 0:
             out.append(damage_sample(draw, data, train))
         out.append(data)
-    return consist + profile + targets + b"".join(out)
+    return consist + blocks + profile + targets + b"".join(out)
 
 
 def cut(draw, number):
     """Feeds cut anywhere."""
-    data = make_trip(draw, draw.between(1, 30), draw.between(0, 8))
-    consist, profile, targets, samples = split(data)
-    before = len(consist) + len(profile) + len(targets)
-    where = number % 8
+    where = number % 9
+    data = make_trip(draw, draw.between(1, 30), draw.between(0, 8), blocks=where == 1)
+    opening, profile, targets, samples = split(data)
+    first = len(opening) + 1
+    before = first + len(profile) + len(targets)
     if where == 0:
-        end = draw.below(16)
+        end = draw.below(CONSIST_BYTES)
     elif where == 1:
-        end = draw.between(16, 18)
+        # the blocks' count missing, or bytes of theirs
+        end = draw.pick((CONSIST_BYTES, draw.between(CONSIST_BYTES + 1, first - 1)))
     elif where == 2:
-        end = draw.between(18, 16 + len(profile))
+        end = draw.between(first, first + 2)
     elif where == 3:
-        end = draw.between(16 + len(profile), before)
+        end = draw.between(first + 2, first + len(profile))
     elif where == 4:
+        end = draw.between(first + len(profile), before)
+    elif where == 5:
         end = before + SAMPLE_BYTES * draw.between(0, len(samples))
     else:
         end = draw.between(before, len(data))

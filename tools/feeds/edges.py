@@ -1,13 +1,16 @@
 """Fields at their least and greatest, and just outside."""
 
+from itertools import zip_longest
+
 from .binary32 import INFINITE, MINUS, nearest_bits
-from .records import CONSIST, LAST_FOOT, LAST_TIME, REACH, SAMPLE_MARK, Feed, pack_sample
+from .loads import least, most
+from .records import CONSIST, LAST_FOOT, LAST_TIME, MOST_BLOCKS, REACH, SAMPLE_MARK, Feed, pack_sample
 
 FASTEST = nearest_bits(100)        # the greatest speed and pressure
 HIGHEST = nearest_bits(160)
 
 
-# ------------------------------------- consist, profile and targets, one rule broken
+# ----------------------------- consist, blocks, profile and targets, one rule broken
 
 # Each of these makes a function that breaks one rule in a feed whose train has its head there.
 
@@ -15,6 +18,31 @@ def outside_consist(name, value):
     def spoil(feed, head):
         feed.consist[name] = value
     return spoil
+
+
+def outside_blocks(*changes):
+    """Three blocks, and what is added to the length, weight and spare bits of each."""
+    def spoil(feed, head):
+        length, weight = feed.consist["length"], feed.consist["weight"]
+        blocks = (1, 1, 0), (length - 2, weight - 2, 0), (1, 1, 0)
+        feed.blocks = [tuple(map(sum, zip(*pair))) for pair in zip_longest(blocks, changes, fillvalue=(0, 0, 0))]
+    return spoil
+
+
+def outside_block_count(count):
+    """Three right blocks, and another count."""
+    def spoil(feed, head):
+        outside_blocks()(feed, head)
+        feed.block_count = count
+    return spoil
+
+
+def too_many_blocks(feed, head):
+    """65, and nothing else wrong."""
+    for name in ("length", "weight"):
+        feed.consist[name] = max(MOST_BLOCKS + 1, feed.consist[name])
+    rest = [feed.consist[name] - MOST_BLOCKS for name in ("length", "weight")]
+    feed.blocks = [(1, 1)] * MOST_BLOCKS + [tuple(rest)]
 
 
 def outside_profile(place, **fields):
@@ -62,10 +90,28 @@ def too_light(feed, head):
     feed.consist["weight"] = 10 * cars - 1
 
 
-# Each rule of consist, profile and targets broken by as little as can be.
+# Each rule of consist, blocks, profile and targets broken by as little as can be.
 OUTSIDE = [outside_consist(name, least - 1) for name, _, least, _ in CONSIST if least > 0]
 OUTSIDE += [outside_consist(name, greatest + 1) for name, _, _, greatest in CONSIST]
+# A length and a weight of 0 with the sums right, spare bits, sums one off.
+OUTSIDE += [outside_blocks(*changes) for changes in (
+    ((-1, 0, 0), (1, 0, 0)),
+    ((0, 0, 0), (1, 0, 0), (-1, 0, 0)),
+    ((0, -1, 0), (0, 1, 0)),
+    ((0, 0, 0), (0, 1, 0), (0, -1, 0)),
+    ((0, 0, 1),),
+    ((0, 0, 0), (0, 0, 0), (0, 0, 2)),
+    ((0, 0, 0), (1, 0, 0)),
+    ((0, 0, 0), (-1, 0, 0)),
+    ((0, 0, 0), (0, 1, 0)),
+    ((0, 0, 0), (0, -1, 0)),
+)]
 OUTSIDE += [
+    too_many_blocks,
+    outside_block_count(2),
+    outside_block_count(4),
+    outside_block_count(MOST_BLOCKS + 1),
+    outside_block_count(255),
     outside_profile(3, start=LAST_FOOT + 1),
     outside_profile(1, grade=-501),
     outside_profile(2, grade=501),
@@ -92,10 +138,15 @@ OUTSIDE = [OUTSIDE[11 * i % len(OUTSIDE)] for i in range(len(OUTSIDE))]
 
 # -------------------------------------------------------------------- the kind
 
+def no_blocks(draw, train):
+    return []
+
+
 def inside(draw, feed, head):
-    """Profile and targets right, at the very edge of a rule."""
+    """Blocks, profile and targets right, at the very edge of a rule."""
     train = feed.consist
     first, last = head - train["length"], head + REACH
+    feed.blocks = draw.pick((no_blocks, no_blocks, least, most))(draw, train)
     which = draw.below(5)
     if which == 0:
         # The most records there may be.
@@ -171,6 +222,9 @@ def edges(draw, number):
     feed.profile = [(head - length, 0, 0, 0), (head + REACH, 0, 0, 0)]
     if number % 12 == 0:
         too_light(feed, head)
+        if number % 24 == 0:
+            # refused 5 all the same
+            outside_block_count(MOST_BLOCKS + 1)(feed, head)
     elif number % 3 == 0:
         inside(draw, feed, head)
     else:

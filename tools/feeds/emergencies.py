@@ -1,5 +1,6 @@
 """Boards that are run past: emergency called behind the penalty."""
 
+from .loads import now_and_then
 from .records import REACH, Feed
 from .trains import SURE, draw_profile, draw_train, sample
 
@@ -64,6 +65,7 @@ def emergency(draw, number):
     place, state = number % PLACES + 1, (number - number // 24) % STATES
     train = draw_quick(draw)
     feed = Feed(train)
+    feed.blocks = now_and_then(draw, train)
     first = draw.below(3000)
     before = first + train["length"] + draw.between(1, 500)
     board = before + draw.between(1100, 6000)

@@ -1,14 +1,11 @@
 """What R-11's finer averages change in the answers to a feed, against averages in hundredths of a percent; and descents so
 slight that only rounding down makes them."""
 
-import re
-
-from .answers import UNLIKE, answers_of, places
+from .answers import DECISION, UNLIKE, differences, places
+from .records import block_count
 
 # What a feed shows: the first of these that any of its samples does.  Neither: they part by cause or emergency alone.
 FINER = ("not called", "nearer", "neither")
-# Time and state, bit and cause, stop; no stop is the greatest number.
-DECISION = re.compile(r"(\d{1,8} [0-5]) (0 0|1 [1-8]) (\d{1,8})", re.ASCII)
 
 
 def grade_feet(profile, rear, head):
@@ -19,36 +16,24 @@ def grade_feet(profile, rear, head):
 
 def slight_descents(feed, output):
     """How many of a feed's samples were accepted with the train moving and its average, as the walk begins, between -1 and 0 in
-    ten-thousandths of a percent, neither included.  The output may be any program's, right or not."""
+    ten-thousandths of a percent, neither included.  None of a train with two blocks or more: each share is rounded there.  The
+    output may be any program's, right or not."""
+    if block_count(feed) > 1:
+        return 0
     return sum(speed > 0 and rear - head < 100 * grade_feet(profile, rear, head) < 0
                for profile, rear, head, speed in places(feed, output, DECISION))
 
 
-def sample_shows(pair, coarse):
-    """What two different answers to a sample show, the second by averages in hundredths.  These are never further up: the stop
-    is no nearer, and what calls the penalty calls it there too.  Emergency waits on each program's own penalty."""
-    lines = [DECISION.fullmatch(line or "") for line in (*pair, *coarse)]
-    if not all(lines):
+def show(calls, farther):
+    """What a sample shows that the two answer otherwise.  Averages in hundredths are never further up: the stop is no nearer, and
+    what calls the penalty calls it there too.  Emergency waits on each program's own penalty."""
+    if calls > 0 or farther > 0:
         return UNLIKE
-    penalty, emergency, coarse_penalty, coarse_emergency = (line.groups() for line in lines)
-    if penalty[0] != coarse_penalty[0] or emergency[0] != coarse_emergency[0]:
-        return UNLIKE
-    calls, coarse_calls = (decision[1] != "0 0" for decision in (penalty, coarse_penalty))
-    nearer = int(coarse_penalty[2]) - int(penalty[2])
-    if calls > coarse_calls or nearer < 0:
-        return UNLIKE
-    if calls < coarse_calls:
+    if calls < 0:
         return "not called"
-    return "nearer" if nearer else "neither"
+    return "nearer" if farther else "neither"
 
 
 def finer(output, coarse):
-    """How many samples a program answers otherwise than one by averages in hundredths, by any line; and what they show, None
-    where the outputs are the same.  They may be any programs', right or not."""
-    if output == coarse:
-        return 0, None
-    pairs, others = answers_of(output), answers_of(coarse)
-    shown = [sample_shows(*both) for both in zip(pairs, others) if both[0] != both[1]]
-    if not shown or len(pairs) != len(others):
-        return len(shown), UNLIKE
-    return len(shown), next(one for one in (UNLIKE, *FINER) if one in shown)
+    """How many samples a program answers otherwise than one by averages in hundredths, and what they show."""
+    return differences(output, coarse, show, FINER)

@@ -2,6 +2,7 @@
 
 from itertools import cycle, islice
 
+from .loads import now_and_then
 from .motion import Run
 from .records import REACH, Feed
 from .trains import draw_profile, draw_targets, draw_train
@@ -73,13 +74,16 @@ def hills(draw, first, last, head, length):
     return draw_profile(draw, first, last, 500, draw.between(10, 80))
 
 
-def draw_board(draw, train, profile, head, speed):
+def draw_board(draw, feed, head, speed):
     """A board about where the train stops with its offset, or a few feet further; none where it does not stop."""
-    stop = Walk(train, profile, head, speed).location(0)
+    train = feed.consist
+    stop = Walk(train, feed.profile, head, speed, feed.blocks).location(0)
     return [] if stop is None else [(stop + train["offset"] + draw.below(30), 0)]
 
 
 PROFILES = (dips, crests, crest_below, descent, climb, hills)
+# What all but balances does so for a weight that is spread evenly.
+ANY_LOAD = (descent, climb, hills)
 
 
 def grades(draw, number):
@@ -98,8 +102,10 @@ def grades(draw, number):
     feed = Feed(train)
     feed.samples = run.samples(count)
     last = run.head + REACH + draw.below(2000)
-    feed.profile = PROFILES[number % len(PROFILES)](draw, first, last, head, length)
+    ground = PROFILES[number % len(PROFILES)]
+    feed.profile = ground(draw, first, last, head, length)
+    feed.blocks = now_and_then(draw, train) if ground in ANY_LOAD else []
     feed.targets = draw_targets(draw, head, run.head + 3000, fast, draw.between(0, 8))
     if draw.chance(50):
-        feed.targets = draw_board(draw, train, feed.profile, head, fast) or feed.targets
+        feed.targets = draw_board(draw, feed, head, fast) or feed.targets
     return feed.bytes()

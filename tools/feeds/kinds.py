@@ -6,6 +6,7 @@ from .damage import cut, damaged
 from .edges import edges
 from .emergencies import emergency
 from .grades import grades
+from .manifests import manifest
 from .pipes import brakes
 from .runaways import runaway
 from .trips import light, trip
@@ -14,13 +15,13 @@ from .undulations import undulating
 # Their order is part of what a seed means.
 KINDS = {"trip": trip, "brakes": brakes, "edges": edges, "light": light, "grades": grades,
          "brink": brink, "damaged": damaged, "cut": cut, "runaway": runaway, "emergency": emergency,
-         "undulating": undulating}
+         "undulating": undulating, "manifest": manifest}
 KIND_NAMES = tuple(KINDS)
 
 # Where no kind is named the seeds go round this list, so that any few hundred
 # seeds in a row hold each kind in its share.
-ROUND = ("trip", "brakes", "light", "edges", "trip", "damaged", "trip", "brakes", "grades", "undulating",
-         "edges", "trip", "brink", "trip", "brakes", "cut", "edges", "trip", "light", "undulating", "trip",
+ROUND = ("trip", "brakes", "light", "edges", "manifest", "damaged", "trip", "brakes", "grades", "undulating",
+         "edges", "trip", "brink", "manifest", "brakes", "cut", "edges", "trip", "light", "undulating", "manifest",
          "brakes", "damaged", "edges", "grades", "trip", "brink", "runaway", "emergency", "undulating")
 
 

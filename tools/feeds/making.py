@@ -1,12 +1,12 @@
 """A readable text to the feed that it states; `feed help` says how a text is written."""
 
-from .records import (CONSIST_NAMES, CONSIST_WIDTHS, LAST_TIME, SAMPLE_MARK, pack_consist, pack_profile, pack_sample,
-                      pack_target)
+from .records import (BLOCK_WIDTHS, CONSIST_NAMES, CONSIST_WIDTHS, LAST_TIME, SAMPLE_MARK, pack_block, pack_consist,
+                      pack_profile, pack_sample, pack_target)
 from .words import Line
 
 # The parts, in the order of the feed.
-CONSIST, PROFILE, TARGETS, SAMPLES = range(4)
-PART_NAMES = ("the consist", "the profile", "the targets", "the samples")
+CONSIST, BLOCKS, PROFILE, TARGETS, SAMPLES = range(5)
+PART_NAMES = ("the consist", "the blocks", "the profile", "the targets", "the samples")
 READINGS = ("head", "speed", "front", "rear")
 
 
@@ -54,13 +54,20 @@ class Maker:
             missing = [name for name in CONSIST_NAMES if name not in self.fields]
             if missing:
                 self.line.bad("the consist needs %s" % ", ".join(missing))
+        elif self.now == BLOCKS:
+            self.check_lines("block", 255)
         elif self.now == PROFILE:
             if part.count is None and not part.records:
                 self.line.bad("there is no profile")
-            if part.records > 65535:
-                self.line.bad("more than 65535 profile lines need a profile-count")
-        elif self.now == TARGETS and part.records > 255:
-            self.line.bad("more than 255 target lines need a target-count")
+            self.check_lines("profile", 65535)
+        elif self.now == TARGETS:
+            self.check_lines("target", 255)
+
+    def check_lines(self, name, most):
+        """The current part's count tells how many lines it has, or is stated."""
+        part = self.parts[self.now]
+        if part.count is None and part.records > most:
+            self.line.bad("more than %d %s lines need a %s-count" % (most, name, name))
 
     def take(self, line):
         """One line."""
@@ -72,8 +79,10 @@ class Maker:
         name = line.next()
         if name in CONSIST_NAMES:
             self.take_field(name)
-        elif name in ("profile", "target", "sample", "raw", "cut"):
+        elif name in ("block", "profile", "target", "sample", "raw", "cut"):
             getattr(self, "take_" + name)()
+        elif name == "block-count":
+            self.take_count(BLOCKS, name, 255)
         elif name == "profile-count":
             self.take_count(PROFILE, name, 65535)
         elif name == "target-count":
@@ -96,6 +105,15 @@ class Maker:
         if part.count is not None:
             self.line.bad("%s is given twice" % name)
         part.count = self.line.only_number(name, greatest)
+
+    def take_block(self):
+        part = self.enter(BLOCKS)
+        if len(self.line.words) < 2:
+            self.line.bad("block needs its length and weight")
+        length, weight = (self.line.number_of(name, 0, (1 << width) - 1)
+                          for name, width in zip(("length", "weight"), BLOCK_WIDTHS))
+        more = self.line.options("block", {"spare": (0, 3, 0)})
+        part.add(pack_block(length, weight, **more))
 
     def take_profile(self):
         part = self.enter(PROFILE)
@@ -168,8 +186,10 @@ class Maker:
         """All the bytes, once the text has ended."""
         if not self.was_cut:
             self.enter(SAMPLES)
-        consist, profile, targets, samples = self.parts
+        consist, blocks, profile, targets, samples = self.parts
         out = [pack_consist(self.fields) if piece is None else piece for piece in consist.pieces]
+        if self.now >= BLOCKS:
+            out += blocks.counted(1)
         if self.now >= PROFILE:
             out += profile.counted(2)
         if self.now >= TARGETS:

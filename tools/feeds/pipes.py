@@ -1,5 +1,6 @@
 """Brake pipe pressures at the edges of the brake rules, the train standing or at any speed."""
 
+from .loads import now_and_then
 from .records import REACH, Feed
 from .trains import SURE, draw_count, draw_train, sample
 
@@ -19,6 +20,7 @@ def brakes(draw, number):
     deep = number % 4 == 1
     pipe = deep_pipe(draw, train) if deep else edge_pipe(draw, train)
     feed = Feed(train)
+    feed.blocks = now_and_then(draw, train)
     head = train["length"] + draw.between(0, 500)
     feed.profile = [(0, draw.between(-40, 40), 0, 0), (head + REACH, 0, 0, 0)]
     speeds = tuple(draw.between(0, 4000) for _ in range(draw.pick((1, 10))))

@@ -14,7 +14,10 @@ CONSIST = (
 )
 CONSIST_NAMES = tuple(name for name, _, _, _ in CONSIST)
 CONSIST_WIDTHS = tuple(width for _, width, _, _ in CONSIST)
-CONSIST_BYTES = 16
+CONSIST_BYTES = 16                              # without its blocks
+BLOCK_WIDTHS = (15, 15, 2)                      # length, weight, spare
+BLOCK_BYTES = 4
+MOST_BLOCKS = 64
 PROFILE_WIDTHS = (24, 11, 11, 2)                # start, grade, curve, spare
 PROFILE_BYTES = 6
 TARGET_WIDTHS = (24, 16)                        # location, speed
@@ -55,6 +58,22 @@ def consist_of(data):
     return dict(zip(CONSIST_NAMES, unpack(data[:CONSIST_BYTES], CONSIST_WIDTHS)))
 
 
+def pack_block(length, weight, spare=0):
+    return pack((length, weight, spare), BLOCK_WIDTHS)
+
+
+def block_count(data):
+    """How many blocks a feed says it has; 0 where it ends before that."""
+    return int.from_bytes(data[CONSIST_BYTES:CONSIST_BYTES + 1], "big")
+
+
+def blocks_of(consist):
+    """The blocks behind a consist's 16 bytes, head end first, as pack_block takes them; bytes that make no whole one count for
+    nothing."""
+    return [tuple(unpack(consist[place:place + BLOCK_BYTES], BLOCK_WIDTHS))
+            for place in range(CONSIST_BYTES, len(consist) - BLOCK_BYTES + 1, BLOCK_BYTES)]
+
+
 def pack_profile(start, grade=0, curve=0, spare=0):
     return pack((start, grade, curve, spare), PROFILE_WIDTHS)
 
@@ -80,28 +99,36 @@ class Feed:
 
     def __init__(self, consist):
         self.consist = consist
+        self.blocks = []           # (length, weight), or with spare behind them
         self.profile = []          # (start, grade, curve, spare)
         self.targets = []          # (location, speed)
         self.samples = []          # bytes
-        self.profile_count = None  # where it is not the number of records
+        self.block_count = None    # where it is not the number of records
+        self.profile_count = None
         self.target_count = None
 
     def bytes(self):
-        profile_count = len(self.profile) if self.profile_count is None else self.profile_count
-        target_count = len(self.targets) if self.target_count is None else self.target_count
-        return b"".join([pack_consist(self.consist),
-                         profile_count.to_bytes(2, "big")]
-                        + [pack_profile(*record) for record in self.profile]
-                        + [target_count.to_bytes(1, "big")]
-                        + [pack_target(*record) for record in self.targets]
+        return b"".join([pack_consist(self.consist)]
+                        + counted(self.block_count, 1, pack_block, self.blocks)
+                        + counted(self.profile_count, 2, pack_profile, self.profile)
+                        + counted(self.target_count, 1, pack_target, self.targets)
                         + self.samples)
 
 
+def counted(count, size, pack_record, records):
+    """A count in so many bytes, that of the records where it is None, and their bytes."""
+    count = len(records) if count is None else count
+    return [count.to_bytes(size, "big")] + [pack_record(*record) for record in records]
+
+
 def split(data):
-    """Consist, profile count and profile, target count and targets, samples of a whole feed; the
-    last sample may be short."""
-    profile_end = CONSIST_BYTES + 2 + PROFILE_BYTES * int.from_bytes(data[16:18], "big")
+    """Of a whole feed: the consist and its blocks, as a session is opened with them, without the
+    count between; profile count and profile; target count and targets; samples, of which the last
+    may be short.  IndexError where the feed ends before its targets."""
+    block_end = CONSIST_BYTES + 1 + BLOCK_BYTES * data[CONSIST_BYTES]
+    profile_end = block_end + 2 + PROFILE_BYTES * int.from_bytes(data[block_end:block_end + 2], "big")
     target_end = profile_end + 1 + TARGET_BYTES * data[profile_end]
     samples = [data[place:place + SAMPLE_BYTES]
                for place in range(target_end, len(data), SAMPLE_BYTES)]
-    return data[:16], data[16:profile_end], data[profile_end:target_end], samples
+    consist = data[:CONSIST_BYTES] + data[CONSIST_BYTES + 1:block_end]
+    return consist, data[block_end:profile_end], data[profile_end:target_end], samples

@@ -3,6 +3,7 @@
 import re
 
 from .answers import places
+from .loads import now_and_then
 from .records import REACH, Feed
 from .trains import SURE, draw_targets, draw_train, sample
 
@@ -44,6 +45,7 @@ def runaway(draw, number):
     speed = 10000 if nearest else draw.between(100 * FAST, 10000)
     front = train["set"]
     feed = Feed(train)
+    feed.blocks = now_and_then(draw, train)
     feed.targets = draw_targets(draw, head, head + 3000, speed, draw.between(0, 8))
     for _ in range(draw.between(2, 8)):
         feed.samples.append(sample(draw, time, head, speed, front, front, SURE))

@@ -3,8 +3,8 @@
 from fractions import Fraction
 
 from .binary32 import MINUS, nearest_bits, value_of
-from .records import (CONSIST_BYTES, PROFILE_BYTES, PROFILE_WIDTHS, SAMPLE_BYTES, SAMPLE_MARK, SAMPLE_WIDTHS, TARGET_BYTES,
-                      TARGET_WIDTHS, consist_of, unpack)
+from .records import (BLOCK_BYTES, BLOCK_WIDTHS, CONSIST_BYTES, PROFILE_BYTES, PROFILE_WIDTHS, SAMPLE_BYTES, SAMPLE_MARK,
+                      SAMPLE_WIDTHS, TARGET_BYTES, TARGET_WIDTHS, consist_of, unpack)
 
 LEAST_SHOWN = Fraction(1, 10000)
 
@@ -36,6 +36,14 @@ def show_sample(data):
         time, head, show_reading(speed), show_reading(front), rear_text)
     if mark != SAMPLE_MARK:
         text += " mark 0x%02x" % mark
+    if spare:
+        text += " spare %d" % spare
+    return text
+
+
+def show_block(data):
+    length, weight, spare = unpack(data, BLOCK_WIDTHS)
+    text = "block %d %d" % (length, weight)
     if spare:
         text += " spare %d" % spare
     return text
@@ -96,6 +104,10 @@ class Shower:
             self.lines.insert(place, "%s %d" % (count_name, count))
         return whole == count
 
+    def blocks(self):
+        self.lines.append("# blocks")
+        return self.table("block-count", 1, BLOCK_BYTES, show_block)
+
     def profile(self):
         self.lines.append("# profile")
         return self.table("profile-count", 2, PROFILE_BYTES, show_profile)
@@ -116,7 +128,7 @@ class Shower:
 def show(data):
     """The lines of a feed's text."""
     shower = Shower(data)
-    whole = shower.consist() and shower.profile() and shower.targets()
+    whole = shower.consist() and shower.blocks() and shower.profile() and shower.targets()
     if whole:
         shower.samples()
     shower.rest()

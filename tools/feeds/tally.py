@@ -6,10 +6,11 @@ from .answers import UNLIKE, answers_of
 from .finer import FINER, finer, slight_descents
 from .rises import RISES, rise
 from .runaways import runaways
+from .weighing import WEIGHED, BlocksSeen, weighed
 
 STATES = range(0, 6)
 CAUSES = range(1, 9)
-REFUSALS = range(2, 11)
+REFUSALS = (*range(2, 11), 13)
 MOST_DIGITS = 8                    # of a number that may be printed
 
 
@@ -67,6 +68,13 @@ def hundredths():
         "nearer": "a nearer stop", "not called": "a penalty not called"})
 
 
+def evenly():
+    """A program that spreads the weight evenly in place of R-1's blocks."""
+    return Earlier("weighed", weighed, WEIGHED, {
+        "call more": "a call more by weight", "call less": "a call less by weight", "farther": "a farther stop by weight",
+        "nearer": "a nearer stop by weight"})
+
+
 class Tally:
     """What was seen; `earlier` are the programs after those that are compared, in their order."""
 
@@ -79,6 +87,7 @@ class Tally:
         self.called = Counter()         # by state
         self.stood = Counter()          # by cause and state
         self.kinds = Counter()
+        self.blocks = BlocksSeen()
         self.earlier = list(earlier)
         self.ends = [Counter() for _ in range(programs + len(self.earlier))]
 
@@ -86,7 +95,7 @@ class Tally:
         self.feeds += 1
         self.runaways += runaways(feed, output)
         self.slight += slight_descents(feed, output)
-        standing = 0
+        standing, before = 0, self.accepted()
         for first, second in answers_of(output):
             lines = 1 + (second is not None)
             self.lines += lines
@@ -97,6 +106,11 @@ class Tally:
                 standing = self.add_decisions(penalty, emergency, standing)
             else:
                 self.odd += lines
+        self.blocks.add(feed, self.accepted() - before)
+
+    def accepted(self):
+        """How many samples were."""
+        return sum(self.states.values())
 
     def add_decisions(self, penalty, emergency, standing):
         """Counts a sample's two; `standing` is emergency's cause before it, the answer the one after it."""
@@ -124,16 +138,16 @@ class Tally:
                    if not self.stood[cause, state]]
                 + ["a runaway"] * (not self.runaways)
                 + ["a slight descent"] * (not self.slight)
+                + self.blocks.missing()
                 + [name for one in self.earlier for name in one.missing()])
 
     def table(self):
         def row(name, counter, usual):
             numbers = sorted(set(usual) | set(counter))
             return "%-9s %s" % (name, "  ".join("%d:%d" % (n, counter[n]) for n in numbers))
-        accepted = sum(self.states.values())
         return "\n".join([
             "compared %d feeds, %d lines (%d accepted, %d refused)"
-            % (self.feeds, self.lines, accepted, sum(self.refusals.values())),
+            % (self.feeds, self.lines, self.accepted(), sum(self.refusals.values())),
             "kinds     " + "  ".join("%s:%d" % pair for pair in sorted(self.kinds.items())),
             row("states", self.states, STATES),
             row("causes", self.causes, range(0, 9)),
@@ -143,6 +157,7 @@ class Tally:
                 sum(self.stood[cause, state] > 0 for cause in CAUSES for state in STATES), len(CAUSES) * len(STATES)),
             "runaways  %d" % self.runaways,
             "slight    %d" % self.slight,
+            self.blocks.row(),
         ] + [one.row() for one in self.earlier] + [
             "exits     " + "; ".join(
                 "program %d " % number + ", ".join("%s:%d" % pair for pair in sorted(ends.items()))

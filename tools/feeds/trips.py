@@ -1,5 +1,6 @@
 """Trips, and those of light trains."""
 
+from .loads import ANY, now_and_then
 from .motion import Run
 from .records import LAST_TIME, REACH, Feed
 from .trains import draw_count, draw_profile, draw_records, draw_targets, draw_train
@@ -11,10 +12,12 @@ def trip(draw, number):
     return make_trip(draw, draw_count(draw), number % 9)
 
 
-def make_trip(draw, count, place):
-    """A trip of so many samples; the target at that place should call."""
+def make_trip(draw, count, place, blocks=False):
+    """A trip of so many samples; the target at that place should call.  Where there are to be
+    blocks there are some, else now and then."""
     train = draw_train(draw)
     feed = Feed(train)
+    feed.blocks = draw.pick(ANY)(draw, train) if blocks else now_and_then(draw, train)
     fast = draw.between(500, 4500) if draw.chance(85) else draw.between(4500, 9000)
     first = draw.pick((0, draw.between(0, 1000000)))
     head = first + train["length"] + draw.between(0, 3000)
@@ -52,6 +55,7 @@ def light(draw, number):
     """Light trains: exactly ten tons a car, weights down to ten tons."""
     train = draw_light_train(draw)
     feed = Feed(train)
+    feed.blocks = now_and_then(draw, train)
     first = draw.below(5000)
     head = first + train["length"] + draw.below(100)
     count = draw.between(5, 40)

@@ -4,6 +4,7 @@ from itertools import accumulate
 from math import isqrt
 
 from .brinks import fastest_coasting
+from .loads import few, now_and_then
 from .records import REACH, Feed
 from .trains import SURE, draw_train, sample
 from .walks import STEP_FEET, Walk
@@ -38,15 +39,14 @@ class Country:
         first = draw.below(2000)
         self.head = first + self.train["length"] + draw.below(50)
         self.profile = draw_waves(draw, first, self.head, self.head + REACH + draw.between(150, 500))
-        self.walk = Walk(self.train, self.profile, self.head, draw.between(300, draw.pick((2000, 4500))))
+        # few, as dozens of walks are made
+        self.blocks = now_and_then(draw, self.train, (few,))
+        self.walk = Walk(self.train, self.profile, self.head, draw.between(300, draw.pick((2000, 4500))), self.blocks)
 
     def bounds(self, limit):
         """The least place for a target of that speed that the first crossing does not call for, and the least one from there
         on that R-2's location does not call for, either."""
-        fast = self.walk.speed ** 2
-        offset = max(0, -(-self.train["offset"] * (fast - limit ** 2) // fast))
-        location, unjudged = self.walk.location(limit), self.head + REACH + 1
-        return self.walk.first_crossing(limit) + offset, unjudged if location is None else min(unjudged, location + offset)
+        return self.walk.first_crossing(limit) + self.walk.offset(limit), self.walk.uncalled(limit)
 
 
 # --- what a walk does: the speed of a target for which it does so, None where there is none
@@ -214,6 +214,7 @@ def undulating(draw, number):
     country, limit, bounds = draw_country(draw, WALKS[which])
     target = place(draw, *bounds)
     feed = Feed(country.train)
+    feed.blocks = country.blocks
     feed.profile = country.profile
     feed.targets = draw_quiet(draw, country, target, limit) + [(target, limit)]
     if place in (between, nearest):

@@ -37,7 +37,7 @@ pub extern "C" fn buongilach_is_open(session: &[u8]) -> bool
 }
 
 // Three digits each for minor and patch.
-const VERSION: u32 = 5_001_000;
+const VERSION: u32 = 6_000_000;
 
 // The version of this library.
 #[no_mangle]

@@ -1,7 +1,7 @@
 // The records for C: each is written from numbers, judged, and a decision is read to numbers. A reading is the 32 bits of a binary32.
 ghost use mathlib.Core.Path.{_≡_};
 ghost use mathlib.Core.List.{[], _∷_};
-ghost use Rattle.writes.specs.Written.{consistWritten, profileWritten, targetsWritten, sampleFields, sampleWritten};
+ghost use Rattle.writes.specs.Written.{consistWritten, manifestWritten, profileWritten, targetsWritten, sampleFields, sampleWritten};
 ghost use Rattle.tells.specs.Judged.{consistJudged, profileJudged, targetsJudged, sampleJudged, decisionRead};
 
 #[no_mangle]
@@ -29,6 +29,39 @@ pub extern "C" fn buongilach_write_consist(
         recharge,
         set,
         offset,
+        out,
+    )
+}
+
+#[no_mangle]
+pub extern "C" fn buongilach_write_manifest(
+    cars: u16,
+    axles: u16,
+    weight: u16,
+    length: u16,
+    rated: u32,
+    application: u32,
+    recharge: u16,
+    set: u16,
+    offset: u16,
+    lengths: &[u16],
+    weights: &[u16],
+    out: &mut [u8],
+) -> u8
+    ensures { λ r. ⌜ (r, now (out .exit)) ≡ manifestWritten (cars ∷ axles ∷ weight ∷ length ∷ rated ∷ application ∷ recharge ∷ set ∷ offset ∷ []) (now (lengths .entry)) (now (weights .entry)) (now (out .entry)) ⌝ }
+{
+    writes::manifest(
+        cars,
+        axles,
+        weight,
+        length,
+        rated,
+        application,
+        recharge,
+        set,
+        offset,
+        lengths,
+        weights,
         out,
     )
 }

@@ -6,12 +6,12 @@ use lib.ListN.{length, take, drop}
 use Rattle.bits.specs.Bytes.{Bytes}
 use Rattle.refusal.specs.declared.Verdict.the-variants.{Accepted}
 use Rattle.consist.specs.declared.Consist.{Consist}
-use Rattle.consist.specs.Consist.{size, answer, readConsist, writeConsist}
+use Rattle.consist.specs.Consist.{sizeOf, answer, readConsist, writeConsist}
 
 unfoldable pub WrittenReadsBack : Type 0
 WrittenReadsBack =
-    (c : Consist) (out : List ℕ) → writeConsist c out .0 ≡ Accepted → readConsist (take size (writeConsist c out .1)) ≡ answer Accepted c
+    (c : Consist) (out : List ℕ) → writeConsist c out .0 ≡ Accepted → readConsist (take (sizeOf c) (writeConsist c out .1)) ≡ answer Accepted c
 
 unfoldable pub AcceptedWritesBack : Type 0
 AcceptedWritesBack =
-    (s out : List ℕ) → Bytes s → size ≤ length out → readConsist s .0 ≡ Accepted → writeConsist (readConsist s .1) out ≡ (Accepted, s ++ drop size out)
+    (s out : List ℕ) → Bytes s → length s ≤ length out → readConsist s .0 ≡ Accepted → writeConsist (readConsist s .1) out ≡ (Accepted, s ++ drop (length s) out)

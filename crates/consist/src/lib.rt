@@ -1,4 +1,5 @@
-// The consist: a record of 16 bytes.
+// The consist: a record of 16 bytes, and the blocks that may follow it.
+use blocks::Blocks;
 use refusal::Refusal;
 use refusal::Step;
 use refusal::Verdict;
@@ -6,7 +7,7 @@ ghost use mathlib.Core.Path.{_≡_};
 ghost use lib.ListN.{take, drop};
 ghost use Rattle.bits.specs.Places.{fieldsFrom, putFrom};
 ghost use Rattle.refusal.specs.Number.{told};
-ghost use Rattle.consist.specs.Consist.{widths, fieldsOf, ofFields, inRange, tooLight, isSound, refusedWith, readConsist, writeConsist};
+ghost use Rattle.consist.specs.Consist.{widths, fieldsOf, ofFields, withBlocks, alone, sizeOf, inRange, tooLight, soundBlocks, isSound, refusedWith, readConsist, writeConsist};
 
 pub struct Consist {
     pub cars: u16,
@@ -25,14 +26,39 @@ pub struct Consist {
     pub set: u16,
     // target offset, feet
     pub offset: u16,
+    pub blocks: Blocks,
 }
 
 impl Consist {
-    // Bytes of the record.
+    // Bytes of the record before its blocks.
     pub const SIZE: usize = 16;
+
+    // The consist with other blocks.
+    pub fn with_blocks(self, blocks: Blocks) -> Consist
+        ensures { λ r. ⌜ r ≡ withBlocks self blocks ⌝ }
+    {
+        let mut c = self;
+        c.blocks = blocks;
+        c
+    }
+
+    // The consist without its blocks.
+    pub fn alone(self) -> Consist
+        ensures { λ r. ⌜ r ≡ alone self ⌝ }
+    {
+        self.with_blocks(Blocks::none())
+    }
+
+    // Bytes of the record with its blocks.
+    fn size(self) -> usize
+        ensures { λ r. ⌜ r ≡ sizeOf self ⌝ }
+    {
+        let b = self.blocks;
+        Consist::SIZE + Blocks::SIZE * b.count as usize
+    }
 }
 
-// What reading a consist answers; where it is refused, the consist is all zero.
+// What reading a consist answers; where it is refused, the consist is all zero, without blocks.
 pub struct Answer {
     pub verdict: Verdict,
     pub consist: Consist,
@@ -41,6 +67,7 @@ pub struct Answer {
 fn refused(r: Refusal) -> Answer
     ensures { λ a. ⌜ (a .verdict, a .consist) ≡ refusedWith r ⌝ }
 {
+    let blocks = Blocks::none();
     Answer {
         verdict: Verdict::Refused(r),
         consist: Consist {
@@ -53,13 +80,16 @@ fn refused(r: Refusal) -> Answer
             recharge: 0,
             set: 0,
             offset: 0,
+            blocks,
         },
     }
 }
 
+// The consist of the bytes before its blocks.
 fn of_bytes(s: &[u8]) -> Consist
     ensures { λ r. ⌜ r ≡ ofFields (fieldsFrom 0 widths (now (s .entry))) ⌝ }
 {
+    let blocks = Blocks::none();
     Consist {
         cars: bits::field(s, 0, 9) as u16,
         axles: bits::field(s, 9, 11) as u16,
@@ -70,6 +100,7 @@ fn of_bytes(s: &[u8]) -> Consist
         recharge: bits::field(s, 92, 10) as u16,
         set: bits::field(s, 102, 14) as u16,
         offset: bits::field(s, 116, 12) as u16,
+        blocks,
     }
 }
 
@@ -100,33 +131,45 @@ fn too_light(c: Consist) -> bool
     (c.weight as u32) < 10 * c.cars as u32
 }
 
+fn sound_blocks(c: Consist) -> bool
+    ensures { λ r. ⌜ r ≡ soundBlocks c ⌝ }
+{
+    let b = c.blocks;
+    blocks::is_sound(b, c.length, c.weight)
+}
+
 // Whether a consist is one that is not refused.
 pub fn is_sound(c: Consist) -> bool
     ensures { λ r. ⌜ r ≡ isSound c ⌝ }
 {
-    in_range(c) & !too_light(c)
+    in_range(c) & !too_light(c) & sound_blocks(c)
 }
 
 pub fn read(s: &[u8]) -> Answer
     ensures { λ r. ⌜ told (r .verdict, r .consist) ≡ told (readConsist (now (s .entry))) ⌝ }
 {
-    let Step::On = refusal::unless(s.len() != Consist::SIZE) else {
+    let Step::On = refusal::unless(s.len() < Consist::SIZE) else {
         return refused(Refusal::WrongLength);
     };
-    let c = of_bytes(s);
+    let c = of_bytes(&s[..Consist::SIZE]);
     let Step::On = refusal::unless(!in_range(c)) else {
         return refused(Refusal::OutOfRange);
     };
     let Step::On = refusal::unless(too_light(c)) else {
         return refused(Refusal::TooLight);
     };
+    let behind = &s[Consist::SIZE..];
+    let Step::On = refusal::unless(blocks::is_broken(behind, c.length, c.weight)) else {
+        return refused(Refusal::BrokenBlocks);
+    };
+    let consist = c.with_blocks(Blocks::laid(behind));
     Answer {
         verdict: Verdict::Accepted,
-        consist: c,
+        consist,
     }
 }
 
-// The first five fields. The record is put in two parts, each short enough to be put without a loop.
+// The first five fields. The bytes before the blocks are put in two parts, each short enough to be put without a loop.
 fn put_front(c: Consist, out: &mut [u8])
     ensures { λ _. ⌜ now (out .exit) ≡ putFrom 0 (take 5 widths) (take 5 (fieldsOf c)) (now (out .entry)) ⌝ }
 {
@@ -155,7 +198,7 @@ fn put_back(c: Consist, out: &mut [u8])
     bits::put_fields(out, 74, &widths, &values);
 }
 
-// Writes the record to the first 16 bytes of `out`.
+// Writes the record to the front of `out`.
 pub fn write(c: Consist, out: &mut [u8]) -> Verdict
     ensures { λ r. ⌜ told (r, now (out .exit)) ≡ told (writeConsist c (now (out .entry))) ⌝ }
 {
@@ -165,10 +208,15 @@ pub fn write(c: Consist, out: &mut [u8]) -> Verdict
     let Step::On = refusal::unless(too_light(c)) else {
         return Verdict::Refused(Refusal::TooLight);
     };
-    let Step::On = refusal::unless(out.len() < Consist::SIZE) else {
+    let Step::On = refusal::unless(out.len() < c.size()) else {
         return Verdict::Refused(Refusal::NoRoom);
+    };
+    let Step::On = refusal::unless(!sound_blocks(c)) else {
+        return Verdict::Refused(Refusal::BrokenBlocks);
     };
     put_front(c, out);
     put_back(c, out);
+    let b = c.blocks;
+    blocks::put(b, &mut out[Consist::SIZE..]);
     Verdict::Accepted
 }

@@ -14,16 +14,16 @@ use Rattle.refusal.proofs.Order.{given, passed}
 use Rattle.refusal.proofs.Numbers.{one-first}
 use Rattle.session.specs.declared.Session.{Session}
 use Rattle.sampling.specs.Sample.{sampleIn, notOpen, rules, sessionAfter, decisionsOf, sampleCall}
-use Rattle.held.specs.Held.{recordAt, sessionIn, bytesOf, noSession, answer, readSession}
+use Rattle.held.specs.Held.{recordAt, sessionIn, noSession, answer, readSession}
 use Rattle.held.proofs.Answers.{held-open}
-use Rattle.lent.specs.Lent.{sampleRules, Sampled, sampleBytes}
+use Rattle.lent.specs.Lent.{bufferOf, sampleRules, Sampled, sampleBytes}
 use Rattle.lent.proofs.Calls.{one-held, by-read}
 
 none-held : (b : List ℕ) → noSession b ≡ true → readSession b ≡ answer (Refused NoSession) (sessionIn b)
 unfolding readSession
 none-held b h = ap (λ (v : Verdict). answer v (sessionIn b)) (given (noSession b) NoSession [] tt h)
 
-written-kept : (v : Verdict) (old new : Session) (b : List ℕ) → written v (bytesOf (kept v new old)) b ≡ written v (bytesOf new) b
+written-kept : (v : Verdict) (old new : Session) (b : List ℕ) → written v (bufferOf (kept v new old)) b ≡ written v (bufferOf new) b
 written-kept Accepted old new b = refl
 written-kept (Refused r) old new b = refl
 
@@ -34,7 +34,7 @@ module _ (b s p t out : List ℕ) where
   -- the number, the session's bytes and the decisions', by the verdict
   abbrev pub leaves : Verdict → Sampled
   leaves v =
-      (numberOfVerdict v, written v (bytesOf (sessionAfter x (sampleIn s) p t)) b .1, written v (decisionsOf x (sampleIn s) p t) out .1)
+      (numberOfVerdict v, written v (bufferOf (sessionAfter x (sampleIn s) p t)) b .1, written v (decisionsOf x (sampleIn s) p t) out .1)
 
   -- where an open session's record stands, the first line of the session's own table does not apply: its lowest is that of the bytes
   same-lowest : noSession (recordAt b) ≡ false → lowest (rules x s p t out) ≡ lowest (sampleRules b s p t out)

@@ -13,7 +13,7 @@ use Rattle.decision.specs.declared.Decision.{Decision}
 use Rattle.sampling.proofs.Computing.{computing}
 use Rattle.session.proofs.Told as session-told
 use Rattle.lent.specs.Lent.{Sampled}
-use Rattle.writes.specs.Written.{consistWritten, profileWritten, targetsWritten}
+use Rattle.writes.specs.Written.{consistWritten, manifestWritten, profileWritten, targetsWritten}
 use Rattle.tells.specs.Judged.{consistJudged, profileJudged, targetsJudged, sampleJudged}
 use Rattle.refusal.proofs as refusal
 use Rattle.consist.proofs as consist
@@ -45,7 +45,7 @@ module _ {L : Type 0} {Given Answer Exit : L → Type 0} {Statement : Type 1 →
   plain met is = call met (λ l a r x p. ap (λ (y : Answer l). (y, tt)) (is l a r x p))
 
 pub calls : Calls
-unfolding computing readSample consistWritten consistJudged profileWritten profileJudged targetsWritten targetsJudged sampleJudged
+unfolding computing readSample consistWritten manifestWritten consistJudged profileWritten profileJudged targetsWritten targetsJudged sampleJudged
 calls = record {
   refusal-unless = plain (λ M. refusal.unless.Met.met) (λ l a r x p. p);
   refusal-number = plain (λ M. refusal.number.Met.met) (λ l a r x p. p);
@@ -76,6 +76,7 @@ calls = record {
   lent-sample = call (λ M. lent.sample.Met.met) (λ l a r x p. ap {B = ℕ × (List ℕ × List ℕ)} (λ ((n, x, d) : Sampled). (n, (x, d))) p);
   lent-is-open = plain (λ M. lent.is_open.Met.met) (λ l a r x p. p);
   writes-consist = call (λ M. writes.consist.Met.met) (λ l a r x p. p);
+  writes-manifest = call (λ M. writes.manifest.Met.met) (λ l a r x p. p);
   writes-profile = call (λ M. writes.profile.Met.met) (λ l a r x p. p);
   writes-targets = call (λ M. writes.targets.Met.met) (λ l a r x p. p);
   writes-sample = call (λ M. writes.sample.Met.met) (λ l a r x p. p);
@@ -88,6 +89,7 @@ calls = record {
   buongilach-sample = call (λ M. library.buongilach_sample.Met.met) (λ l a r x p. ap {B = ℕ × (List ℕ × List ℕ)} (λ ((n, x, d) : Sampled). (n, (x, d))) p);
   buongilach-is-open = plain (λ M. library.buongilach_is_open.Met.met) (λ l a r x p. p);
   buongilach-write-consist = call (λ M. records.buongilach_write_consist.Met.met) (λ l a r x p. p);
+  buongilach-write-manifest = call (λ M. records.buongilach_write_manifest.Met.met) (λ l a r x p. p);
   buongilach-judge-consist = plain (λ M. records.buongilach_judge_consist.Met.met) (λ l a r x p. p);
   buongilach-write-profile = call (λ M. records.buongilach_write_profile.Met.met) (λ l a r x p. p);
   buongilach-judge-profile = plain (λ M. records.buongilach_judge_profile.Met.met) (λ l a r x p. p);

@@ -7,7 +7,7 @@ use Prim.Native.Nat.{ℕ}
 use lib.Dec.{eqb}
 use borrow.Author.Tests.{eq-eqb}
 use Rattle.refusal.specs.declared.Refusal.{Refusal}
-use Rattle.refusal.specs.declared.Refusal.the-variants.{NoSession, WrongLength, WrongMark, OutOfRange, TooLight, BrokenProfile, BrokenTargets, BadReading, WrongTime, NotCovered, NoRoom}
+use Rattle.refusal.specs.declared.Refusal.the-variants.{NoSession, WrongLength, WrongMark, OutOfRange, TooLight, BrokenProfile, BrokenTargets, BadReading, WrongTime, NotCovered, NoRoom, BrokenBlocks}
 use Rattle.refusal.specs.declared.Verdict.{Verdict}
 use Rattle.refusal.specs.declared.Verdict.the-variants.{Refused}
 use Rattle.refusal.specs.Number.{numberOf, numberOfVerdict, told}
@@ -25,7 +25,7 @@ use Rattle.session.specs.Open.{openOf}
 use Rattle.sampling.specs.Sample.{sampleCall}
 use Rattle.held.specs.Held.{readSession, writeSession}
 use Rattle.lent.specs.Lent.{sampleRules, openBytes, Sampled}
-use Rattle.writes.specs.Written.{sampleWritten}
+use Rattle.writes.specs.Written.{writeManifest, sampleWritten}
 use Rattle.tells.specs.Judged.{decisionRead}
 use Rattle.demands.specs.Demand1.{among, tableNumbers, RefusesBy, Refuses, RefusesC, Demand-1}
 use Rattle.demands.proofs.Calls.{calls}
@@ -46,6 +46,7 @@ in-table BadReading = refl
 in-table WrongTime = refl
 in-table NotCovered = refl
 in-table NoRoom = refl
+in-table BrokenBlocks = refl
 
 -- ---- the lines of a call
 
@@ -101,13 +102,14 @@ writes {numbers} {rules} bytes out lines =
     refuses _ lines (written-verdict (lowest rules) bytes out) (λ q h. ap (λ (v : Verdict). written v bytes out .1) h)
 
 pub demand-1 : Demand-1
-unfolding table.judge table.write readConsist writeConsist layOut judgeSample readSample writeSample readDecision writeDecision openOf sampleCall readSession writeSession openBytes sampleWritten decisionRead
+unfolding table.judge table.write readConsist writeConsist writeManifest layOut judgeSample readSample writeSample readDecision writeDecision openOf sampleCall readSession writeSession openBytes sampleWritten decisionRead
 demand-1 = record {
   calls = calls;
   table = record { in-order = refl; no-other = in-table; apart = number-tells };
   eleven = eleven;
   consist-read = λ s. reads _ refl;
   consist-write = λ c out. writes _ _ refl;
+  manifest-write = λ c lengths weights out. writes _ _ refl;
   profile-judge = λ p. reads _ refl;
   profile-write = λ starts grades curvatures out. writes _ _ refl;
   targets-judge = λ t. reads _ refl;

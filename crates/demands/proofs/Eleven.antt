@@ -72,7 +72,7 @@ module _ (x : Session) (s p t : List ℕ) where
     test-finds-nothing force u =
         let m = sampleIn s in
         let w = walkable (x .consist) (brakeAfter x m) m p (predictable x m p (ready x s p t h)) in
-        test-idle (x .consist) force (ground made) (m .head) (m .speed) u (w .limited) (gentle-no-steeper (layOf p) (x .consist .length) (w .track))
+        test-idle (x .consist) force (ground made) (m .head) (m .speed) u (w .limited) (gentle-no-steeper (layOf p) (x .consist) (w .track) (w .blocks))
         (w .speed)
 
     -- so it finds the stop

@@ -100,6 +100,7 @@ emergency-3 h w m m′ does does′ z z′ x y l l′ d d′ o o′ b b′ e e�
       axles = worse .axles;
       weight = worse .weight;
       length = worse .length;
+      blocks = worse .blocks;
       a = same .0;
       b = same .1;
       equalization = same .2;

@@ -5,7 +5,9 @@ use native.Mathlib.Omega.{arith}
 use Rattle.whole.specs.Floor.{floorDiv}
 use Rattle.whole.specs.Ceiling.{ceilDiv}
 use Rattle.whole.specs.Root.{digits, rootOf}
+use Rattle.blocks.specs.Blocks.{none}
 use Rattle.track.specs.Track.{feet, gradeFeet, curvatureFeet, gradeUnder, curvatureUnder}
+use Rattle.shares.specs.Shares.{groundUnder}
 use Rattle.step.specs.Curve.{dropAt, cylinderAt, forceAt, penaltyCurve}
 use Rattle.step.specs.Step.{opposing, loss, stepTime, stepOf}
 use Rattle.walk.specs.Walk.{never, stays, walkTo, arrivalFor}
@@ -17,7 +19,7 @@ use Rattle.laws.proofs.Crossing.{crossings}
 
 -- the walk that is cut
 no-stop : arrivalOf (unbraked 5000 5000) 0 ≡ never
-unfolding floorDiv ceilDiv digits rootOf feet gradeFeet curvatureFeet gradeUnder curvatureUnder dropAt cylinderAt forceAt penaltyCurve opposing loss stepTime stepOf stays walkTo arrivalFor isJudged offsetFor isCalled arrivalOf crossingTo crossingFor
+unfolding floorDiv ceilDiv digits rootOf none feet gradeFeet curvatureFeet gradeUnder curvatureUnder groundUnder dropAt cylinderAt forceAt penaltyCurve opposing loss stepTime stepOf stays walkTo arrivalFor isJudged offsetFor isCalled arrivalOf crossingTo crossingFor
 no-stop = refl
 
 crossed : Crossed (unbraked 5000 5000 .consist) (force (unbraked 5000 5000)) (ground (unbraked 5000 5000)) 5000 5000
@@ -38,7 +40,7 @@ unfolding arrivalOf
 cut-called = crossed .cut-calls no-stop 500 20000 9000 (omega arith) judged
 
 pub rise-figures : RiseFigures
-unfolding floorDiv ceilDiv digits rootOf feet gradeFeet curvatureFeet gradeUnder curvatureUnder dropAt cylinderAt forceAt penaltyCurve opposing loss stepTime stepOf stays walkTo arrivalFor isJudged offsetFor isCalled arrivalOf crossingTo crossingFor
+unfolding floorDiv ceilDiv digits rootOf none feet gradeFeet curvatureFeet gradeUnder curvatureUnder groundUnder dropAt cylinderAt forceAt penaltyCurve opposing loss stepTime stepOf stays walkTo arrivalFor isJudged offsetFor isCalled arrivalOf crossingTo crossingFor
 rise-figures = record {
   dips = refl;
   settles = refl;

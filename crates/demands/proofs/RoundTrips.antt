@@ -1,5 +1,6 @@
 -- The round trips, from what each record's crate proves. Assumes nothing.
 use mathlib.Core.Path.{_≡_, refl, sym, ap, subst, _∙_}
+use mathlib.Core.Bool.{true}
 use mathlib.Core.List.{List, _∷_, _++_}
 use Prim.Native.Nat.{ℕ, _*_, _≤_, _<_}
 use native.Mathlib.Omega.{arith}
@@ -9,6 +10,8 @@ use lib.Seq.{ext-getD, drop-at}
 use lib.IntN.{pos}
 use borrow.Author.Tests.{eqb-true, not-false}
 use Rattle.bits.specs.Bytes.{Bytes}
+use Rattle.bits.proofs.Ranges.{and-true-left}
+use Rattle.blocks.specs.Blocks.{ofLists}
 use Rattle.bits.specs.Tables.{upTo}
 use Rattle.bits.proofs.UpTo.{length-upTo, getD-upTo}
 use Rattle.refusal.specs.declared.Refusal.the-variants.{WrongLength}
@@ -20,7 +23,9 @@ use Rattle.refusal.specs.Written.{written}
 use Rattle.refusal.proofs.Order.{accepted, append-accepted, written-accepted}
 use Rattle.refusal.proofs.Numbers.{verdict-accepted}
 use Rattle.record.specs.Record.{wrongLength}
+use Rattle.consist.specs.declared.Consist.{Consist}
 use Rattle.consist.specs.Consist as consist
+use Rattle.consist.proofs.Bytes as consist-bytes
 use Rattle.consist.specs.RoundTrip as consist-trip
 use Rattle.consist.proofs.RoundTrip as consist-back
 use Rattle.profile.specs.declared.Segment.{Segment}
@@ -45,8 +50,9 @@ use Rattle.decision.proofs.RoundTrip as decision-back
 use Rattle.held.specs.Held as held
 use Rattle.laws.specs.HeldTrip as held-trip
 use Rattle.laws.proofs.HeldTrip as held-back
-use Rattle.held.proofs.Answers.{read-inv}
-use Rattle.writes.specs.Written.{sampleWriteRules, sampleWritten}
+use Rattle.held.proofs.Answers.{size-of}
+use Rattle.writes.specs.Written.{sizeWith, areListed, manifestOf, manifestRules, writeManifest, sampleWriteRules, sampleWritten}
+use Rattle.writes.proofs.Listed.{listed-count, listed-writes}
 use Rattle.tells.specs.Judged.{decisionNumbers, numbersOf, decisionRules, decisionRead}
 use Rattle.demands.specs.RoundTrips.{ReadsBack, RoundTrip, Segments, RoundTrips}
 
@@ -56,26 +62,35 @@ written-past : (n : ℕ) (v : Verdict) (bytes out : List ℕ) → length bytes �
 written-past n Accepted bytes out h = drop-at bytes _ n h ∙ ap (λ (m : ℕ). drop m out) h
 written-past n (Refused r) bytes out h = refl
 
--- ---- a record of n bytes
+-- ---- a record
 
 -- what reads as a value is written back by its writer; c stands for the value
-module _ {A C : Type 0} (n : ℕ) (value : C → A) (read : List ℕ → Verdict × A) (bytes : A → List ℕ) (rules : A → List ℕ → List Rule) where
+module _ {A C : Type 0} (value : C → A) (read : List ℕ → Verdict × A) (bytes : A → List ℕ) (rules : A → List ℕ → List Rule) where
   abbrev write : A → List ℕ → Verdict × List ℕ
   write a out = written (lowest (rules a out)) (bytes a) out
 
-  of-size : ((a : A) → length (bytes a) ≡ n) → ((s : List ℕ) → read s .0 ≡ Accepted → length s ≡ n)
+  -- of as many bytes as its value says
+  of-any-size : (size : A → ℕ) → ((a : A) → length (bytes a) ≡ size a)
+      → ((c : C) (out : List ℕ) → write (value c) out .0 ≡ Accepted → read (take (size (value c)) (write (value c) out .1)) ≡ (Accepted, value c))
+      → ((s out : List ℕ) → Bytes s → length s ≤ length out → read s .0 ≡ Accepted → write (read s .1) out ≡ (Accepted, s ++ drop (length s) out))
+      → RoundTrip (λ c. size (value c)) (λ s c. read s ≡ (Accepted, value c)) (λ c. write (value c))
+  of-any-size size long there back = record {
+    reads-back = record {
+      written-reads-back = there;
+      past = λ c out. written-past (size (value c)) (lowest (rules (value c) out)) (bytes (value c)) out (long (value c));
+    };
+    accepted-writes-back = λ s out c b room h.
+        ap (λ (x : Verdict × A). write (x .1) out) (sym h) ∙ back s out b room (ap (λ (x : Verdict × A). x .0) h);
+  }
+
+  -- of n bytes
+  of-size : (n : ℕ) → ((a : A) → length (bytes a) ≡ n) → ((s : List ℕ) → read s .0 ≡ Accepted → length s ≡ n)
       → ((c : C) (out : List ℕ) → write (value c) out .0 ≡ Accepted → read (take n (write (value c) out .1)) ≡ (Accepted, value c))
       → ((s out : List ℕ) → Bytes s → n ≤ length out → read s .0 ≡ Accepted → write (read s .1) out ≡ (Accepted, s ++ drop n out))
       → RoundTrip (λ c. n) (λ s c. read s ≡ (Accepted, value c)) (λ c. write (value c))
-  of-size long size there back = record {
-    reads-back = record { written-reads-back = there; past = λ c out. written-past n (lowest (rules (value c) out)) (bytes (value c)) out (long (value c)) };
-    accepted-writes-back = λ s out c b room h.
-        let v = ap (λ (x : Verdict × A). x .0) h in
-        let e = size s v in
-        ap (λ (x : Verdict × A). write (x .1) out) (sym h)
-        ∙ back s out b (subst (λ (m : ℕ). m ≤ length out) e room) v
-        ∙ ap (λ (m : ℕ). (Accepted, s ++ drop m out)) (sym e);
-  }
+  of-size n long size there back = of-any-size (λ a. n) long there (λ s out b room v.
+      let e = size s v in
+      back s out b (subst (λ (m : ℕ). m ≤ length out) e room) v ∙ ap (λ (m : ℕ). (Accepted, s ++ drop m out)) (sym e))
 
 -- bytes that are not refused 2
 right-length : (n : ℕ) (s : List ℕ) (rules : List Rule) → lowest ((wrongLength n s, WrongLength) ∷ rules) ≡ Accepted → length s ≡ n
@@ -101,13 +116,56 @@ tells size Reads writes trip = record {
   past = trip .past;
 }
 
+-- ---- the consist from lists
+
+-- lists that a writer accepts are as long as each other, and no longer than there are places
+accepted-listed : (c : Consist) (lengths weights out : List ℕ) → lowest (manifestRules c lengths weights out) ≡ Accepted → areListed lengths weights ≡ true
+accepted-listed c lengths weights out v =
+    let right = accepted _ _ _ (accepted _ _ _ (accepted _ _ _ (accepted _ _ _ v .1) .1) .1) .0 in
+    and-true-left (areListed lengths weights) _ (not-false _ right)
+
+-- as many bytes as there are lengths for
+manifest-long : (c : Consist) (lengths weights : List ℕ) → areListed lengths weights ≡ true
+    → length (consist.bytesOf (manifestOf c lengths weights)) ≡ sizeWith (length lengths)
+unfolding ofLists
+manifest-long c lengths weights listed =
+    consist-bytes.length-bytes (manifestOf c lengths weights) ∙ ap sizeWith (listed-count lengths weights listed)
+
+manifest-past : (c : Consist) (lengths weights out : List ℕ) (v : Verdict) → lowest (manifestRules c lengths weights out) ≡ v →
+    let n = sizeWith (length lengths) in
+    drop n (writeManifest c lengths weights out .1) ≡ drop n out
+unfolding writeManifest
+manifest-past c lengths weights out Accepted e =
+    let n = sizeWith (length lengths) in
+    let bytes = consist.bytesOf (manifestOf c lengths weights) in
+    ap (λ (v : Verdict). drop n (written v bytes out .1)) e
+    ∙ written-past n Accepted bytes out (manifest-long c lengths weights (accepted-listed c lengths weights out e))
+manifest-past c lengths weights out (Refused r) e =
+    ap (λ (v : Verdict). drop (sizeWith (length lengths)) (written v (consist.bytesOf (manifestOf c lengths weights)) out .1)) e
+
+manifest-reads : (c : Consist) (lengths weights out : List ℕ) → writeManifest c lengths weights out .0 ≡ Accepted
+    → consist.readConsist (take (sizeWith (length lengths)) (writeManifest c lengths weights out .1)) ≡ (Accepted, manifestOf c lengths weights)
+unfolding writeManifest ofLists consist-trip.WrittenReadsBack
+manifest-reads c lengths weights out h =
+    let full = manifestOf c lengths weights in
+    let listed = accepted-listed c lengths weights out (written-accepted _ (consist.bytesOf full) out h) in
+    let e = listed-writes c lengths weights out listed in
+    subst (λ (n : ℕ). consist.readConsist (take (sizeWith n) (writeManifest c lengths weights out .1)) ≡ (Accepted, full))
+    (listed-count lengths weights listed)
+    (ap (λ (w : Verdict × List ℕ). consist.readConsist (take (consist.sizeOf full) (w .1))) (sym e)
+    ∙ consist-back.written-reads-back full out (ap (λ (w : Verdict × List ℕ). w .0) e ∙ h))
+
 -- ---- the records
 
 pub round-trips : RoundTrips
 unfolding consist-trip.WrittenReadsBack consist-trip.AcceptedWritesBack profile-trip.WrittenReadsBack profile-trip.AcceptedWritesBack targets-trip.WrittenReadsBack targets-trip.AcceptedWritesBack sample-trip.WrittenReadsBack sample-trip.AcceptedWritesBack decision-trip.WrittenReadsBack decision-trip.AcceptedWritesBack held-trip.WrittenReadsBack held-trip.AcceptedWritesBack consist.readConsist readSample readDecision consist.writeConsist consist.bytesOf table.write writeSample bytesOf writeDecision decision.bytesOf held.writeSession sampleWritten decisionRead
 round-trips = record {
-  consist = of-size consist.size (λ c. c) consist.readConsist consist.bytesOf consist.writeRules (λ c. refl) (λ s. right-length consist.size s _)
+  consist = of-any-size (λ c. c) consist.readConsist consist.bytesOf consist.writeRules consist.sizeOf consist-bytes.length-bytes
       consist-back.written-reads-back consist-back.accepted-writes-back;
+  manifest = record {
+    written-reads-back = λ (c, lengths, weights) out h. manifest-reads c lengths weights out h;
+    past = λ (c, lengths, weights) out. manifest-past c lengths weights out (lowest (manifestRules c lengths weights out)) refl;
+  };
   profile = record {
     reads-back = record {
       written-reads-back = λ (starts, grades, curvatures) out h.
@@ -147,12 +205,12 @@ round-trips = record {
         ap (λ ((v, (locations, speeds)) : Verdict × (List ℕ × List ℕ)). writeTargets locations speeds out) (sym h)
         ∙ targets-back.accepted-writes-back t out _ b room (λ i. (h i .0, judgeTargets t .1));
   };
-  sample = of-size sampleSize ofFields readSample bytesOf writeRules (λ c. refl) (λ s. right-length sampleSize s _)
+  sample = of-size ofFields readSample bytesOf writeRules sampleSize (λ c. refl) (λ s. right-length sampleSize s _)
       sample-back.written-reads-back sample-back.accepted-writes-back;
-  decision = of-size decision.size (λ d. d) readDecision decision.bytesOf decision.writeRules (λ d. refl) (λ s. right-length decision.size s _)
+  decision = of-size (λ d. d) readDecision decision.bytesOf decision.writeRules decision.size (λ d. refl) (λ s. right-length decision.size s _)
       decision-back.written-reads-back decision-back.accepted-writes-back;
-  held = of-size held.size (λ x. x) held.readSession held.bytesOf held.writeRules held-back.size-of (λ s h. read-inv s h .0 .size)
-      held-back.written-reads-back held-back.accepted-writes-back;
+  held = of-any-size (λ x. x) held.readSession held.bytesOf held.writeRules held.sizeOf size-of held-back.written-reads-back
+      held-back.accepted-writes-back;
   told = tells;
   -- where the writer that refuses more accepts, both write the same
   buongilach-write-sample = record {

@@ -16,7 +16,7 @@ use Rattle.session.specs.Open.{openOf}
 use Rattle.sampling.specs.Sample.{sampleCall}
 use Rattle.held.specs.Held.{recordAt, readSession, writeSession}
 use Rattle.lent.specs.Lent.{openBytes, sampleBytes, isOpenBytes}
-use Rattle.writes.specs.Written.{sampleFields, sampleWritten}
+use Rattle.writes.specs.Written.{writeManifest, sampleFields, sampleWritten}
 use Rattle.tells.specs.Judged.{decisionRead}
 use Rattle.buongilach.specs.Version.{version}
 use Rattle.refusal.proofs as refusal
@@ -130,6 +130,11 @@ pub record Calls : Type 2 where
       (λ l (_, (_, (_, (_, (_, (_, (_, (_, (_, (out, _)))))))))). now out)
       (λ l (cars, (axles, (weight, (length, (rated, (application, (recharge, (set, (offset, (out, _)))))))))).
       told (writeConsist (ofFields (cars ∷ axles ∷ weight ∷ length ∷ rated ∷ application ∷ recharge ∷ set ∷ offset ∷ [])) (now out)))
+  pub writes-manifest :
+      PublicCall writes.manifest.Statement.statement writes.manifest.Reads.Asked writes.manifest.Reads.Post
+      (λ l (_, (_, (_, (_, (_, (_, (_, (_, (_, (_, (_, (out, _)))))))))))). now out)
+      (λ l (cars, (axles, (weight, (length, (rated, (application, (recharge, (set, (offset, (lengths, (weights, (out, _)))))))))))).
+      told (writeManifest (ofFields (cars ∷ axles ∷ weight ∷ length ∷ rated ∷ application ∷ recharge ∷ set ∷ offset ∷ [])) (now lengths) (now weights) (now out)))
   pub writes-profile : PublicCall writes.profile.Statement.statement writes.profile.Reads.Asked writes.profile.Reads.Post
       (λ l (_, (_, (_, (out, _)))). now out)
       (λ l (starts, (grades, (curvatures, (out, _)))). told (writeProfile (now starts) (now grades) (now curvatures) (now out)))
@@ -163,6 +168,11 @@ pub record Calls : Type 2 where
       (λ l (_, (_, (_, (_, (_, (_, (_, (_, (_, (out, _)))))))))). now out)
       (λ l (cars, (axles, (weight, (length, (rated, (application, (recharge, (set, (offset, (out, _)))))))))).
       told (writeConsist (ofFields (cars ∷ axles ∷ weight ∷ length ∷ rated ∷ application ∷ recharge ∷ set ∷ offset ∷ [])) (now out)))
+  pub buongilach-write-manifest :
+      PublicCall records.buongilach_write_manifest.Statement.statement records.buongilach_write_manifest.Reads.Asked records.buongilach_write_manifest.Reads.Post
+      (λ l (_, (_, (_, (_, (_, (_, (_, (_, (_, (_, (_, (out, _)))))))))))). now out)
+      (λ l (cars, (axles, (weight, (length, (rated, (application, (recharge, (set, (offset, (lengths, (weights, (out, _)))))))))))).
+      told (writeManifest (ofFields (cars ∷ axles ∷ weight ∷ length ∷ rated ∷ application ∷ recharge ∷ set ∷ offset ∷ [])) (now lengths) (now weights) (now out)))
   pub buongilach-judge-consist :
       PlainCall records.buongilach_judge_consist.Statement.statement records.buongilach_judge_consist.Reads.Asked records.buongilach_judge_consist.Reads.Post
       (λ l (s, _). told (readConsist (now s)) .0)

@@ -9,7 +9,7 @@ use Prim.Native.Nat.{ℕ}
 use lib.Dec.{eqb}
 use lib.IntN.{ℤ}
 use Rattle.refusal.specs.declared.Refusal.{Refusal}
-use Rattle.refusal.specs.declared.Refusal.the-variants.{NoSession, WrongLength, WrongMark, OutOfRange, TooLight, BrokenProfile, BrokenTargets, BadReading, WrongTime, NotCovered, NoRoom}
+use Rattle.refusal.specs.declared.Refusal.the-variants.{NoSession, WrongLength, WrongMark, OutOfRange, TooLight, BrokenProfile, BrokenTargets, BadReading, WrongTime, NotCovered, NoRoom, BrokenBlocks}
 use Rattle.refusal.specs.declared.Verdict.{Verdict}
 use Rattle.refusal.specs.declared.Verdict.the-variants.{Accepted, Refused}
 use Rattle.refusal.specs.Number.{numberOf, told}
@@ -29,7 +29,7 @@ use Rattle.session.specs.Open.{openOf}
 use Rattle.sampling.specs.Sample.{rules, sampleCall}
 use Rattle.held.specs.Held as held
 use Rattle.lent.specs.Lent.{openRules, sampleRules, openBytes, sampleBytes}
-use Rattle.writes.specs.Written.{sampleWriteRules, sampleWritten}
+use Rattle.writes.specs.Written.{manifestRules, writeManifest, sampleWriteRules, sampleWritten}
 use Rattle.tells.specs.Judged.{decisionRules, decisionRead}
 use Rattle.demands.specs.Calls.{Calls}
 use Rattle.demands.specs.Eleven.{Eleven}
@@ -41,13 +41,13 @@ among n [] = false
 among n (m ∷ ms) = eqb n m || among n ms
 
 abbrev pub tableNumbers : List ℕ
-tableNumbers = 1 ∷ 2 ∷ 3 ∷ 4 ∷ 5 ∷ 6 ∷ 7 ∷ 8 ∷ 9 ∷ 10 ∷ 12 ∷ []
+tableNumbers = 1 ∷ 2 ∷ 3 ∷ 4 ∷ 5 ∷ 6 ∷ 7 ∷ 8 ∷ 9 ∷ 10 ∷ 12 ∷ 13 ∷ []
 
--- the refusals have the numbers 1 to 10 and 12, and no two share one
+-- the refusals have the numbers 1 to 10, 12 and 13, and no two share one
 pub record Table : Type 0 where
   pub in-order :
       map numberOf
-      (NoSession ∷ WrongLength ∷ WrongMark ∷ OutOfRange ∷ TooLight ∷ BrokenProfile ∷ BrokenTargets ∷ BadReading ∷ WrongTime ∷ NotCovered ∷ NoRoom ∷ [])
+      (NoSession ∷ WrongLength ∷ WrongMark ∷ OutOfRange ∷ TooLight ∷ BrokenProfile ∷ BrokenTargets ∷ BadReading ∷ WrongTime ∷ NotCovered ∷ NoRoom ∷ BrokenBlocks ∷ [])
       ≡ tableNumbers
   pub no-other : (r : Refusal) → among (numberOf r) tableNumbers ≡ true
   pub apart : (r s : Refusal) → numberOf r ≡ numberOf s → r ≡ s
@@ -81,8 +81,10 @@ pub record Demand-1 : Type 2 where
   pub calls : Calls
   pub table : Table
   pub eleven : (x : Session) (s p t out : List ℕ) → Eleven x s p t out
-  pub consist-read : (s : List ℕ) → Refuses (2 ∷ 4 ∷ 5 ∷ []) (consist.readRules s) consist.none (consist.readConsist s)
-  pub consist-write : (c : Consist) (out : List ℕ) → Refuses (4 ∷ 5 ∷ 12 ∷ []) (consist.writeRules c out) out (consist.writeConsist c out)
+  pub consist-read : (s : List ℕ) → Refuses (2 ∷ 4 ∷ 5 ∷ 13 ∷ []) (consist.readRules s) consist.none (consist.readConsist s)
+  pub consist-write : (c : Consist) (out : List ℕ) → Refuses (4 ∷ 5 ∷ 12 ∷ 13 ∷ []) (consist.writeRules c out) out (consist.writeConsist c out)
+  pub manifest-write : (c : Consist) (lengths weights out : List ℕ)
+      → Refuses (4 ∷ 5 ∷ 12 ∷ 13 ∷ []) (manifestRules c lengths weights out) out (writeManifest c lengths weights out)
   pub profile-judge : (p : List ℕ) → Refuses (6 ∷ []) (profile.judgeRules p) 0 (profile.judgeProfile p)
   pub profile-write : (starts : List ℕ) (grades : List ℤ) (curvatures out : List ℕ)
       → Refuses (6 ∷ 12 ∷ []) (profile.writeRules starts grades curvatures out) out (profile.writeProfile starts grades curvatures out)
@@ -96,7 +98,7 @@ pub record Demand-1 : Type 2 where
   pub decision-read : (s : List ℕ) → Refuses (2 ∷ 3 ∷ 4 ∷ []) (decision.readRules s) decision.none (decision.readDecision s)
   pub decision-write : (d : Decision) (out : List ℕ) → Refuses (4 ∷ 12 ∷ []) (decision.writeRules d out) out (decision.writeDecision d out)
   pub session-open : (x : Session) (s : List ℕ)
-      → Refuses (2 ∷ 4 ∷ 5 ∷ []) (consist.readRules s) x (openOf x s .verdict, openOf x s .session)
+      → Refuses (2 ∷ 4 ∷ 5 ∷ 13 ∷ []) (consist.readRules s) x (openOf x s .verdict, openOf x s .session)
   pub session-sample : (x : Session) (s p t out : List ℕ) →
       let (a, bytes) = sampleCall x s p t out in
       Refuses {S = Session × List ℕ} (1 ∷ 2 ∷ 3 ∷ 6 ∷ 7 ∷ 8 ∷ 9 ∷ 10 ∷ 12 ∷ []) (rules x s p t out) (x, out) (a .verdict, (a .session, bytes))
@@ -105,7 +107,7 @@ pub record Demand-1 : Type 2 where
   -- for C the same holds of a definition above, told; four calls have a definition of their own
   pub told : {S : Type 0} {numbers : List ℕ} {rules : List Rule} {before : S} (answer : Verdict × S)
       → Refuses numbers rules before answer → RefusesC numbers rules before (told answer)
-  pub buongilach-open : (consist session : List ℕ) → RefusesC (2 ∷ 4 ∷ 5 ∷ 12 ∷ []) (openRules consist session) session (openBytes consist session)
+  pub buongilach-open : (consist session : List ℕ) → RefusesC (2 ∷ 4 ∷ 5 ∷ 12 ∷ 13 ∷ []) (openRules consist session) session (openBytes consist session)
   pub buongilach-sample : (session s p t decision : List ℕ) →
       let (n, x, d) = sampleBytes session s p t decision in
       RefusesC {S = List ℕ × List ℕ} (1 ∷ 2 ∷ 3 ∷ 6 ∷ 7 ∷ 8 ∷ 9 ∷ 10 ∷ 12 ∷ []) (sampleRules session s p t decision) (session, decision) (n, (x, d))

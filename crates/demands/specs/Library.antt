@@ -14,20 +14,20 @@ use Rattle.refusal.specs.Number.{numberOfVerdict}
 use Rattle.session.specs.declared.Session.{Session}
 use Rattle.session.specs.Session.{isOpen}
 use Rattle.sampling.specs.Laws.{Lent}
-use Rattle.held.specs.Held.{size, recordAt, bytesOf, readSession}
-use Rattle.lent.specs.Lent.{openBytes, sampleBytes}
+use Rattle.held.specs.Held.{most, recordAt, bytesOf, readSession}
+use Rattle.lent.specs.Lent.{bufferOf, openBytes, sampleBytes}
 use Rattle.buongilach.proofs.buongilach_open as open-call
 use Rattle.buongilach.proofs.buongilach_sample as sample-call
 use Rattle.demands.specs.Machine.{Slice, Lends, sampling, Machine, call, Holding, Unopened}
 
--- ---- a state is bytes that begin with the session's record, and a verdict is told as its number
+-- ---- a state is bytes that begin with the session's buffer, and a verdict is told as its number
 
--- as many bytes as the record has, or more, and a call leaves those past it as they were; fewer are never an open session, and stay none
+-- as many bytes as the buffer has, or more, and a call leaves those past it as they were; fewer are never an open session, and stay none
 abbrev pub inBytes : Holding (List ℕ) ℕ
 inBytes = record {
-  Fits = λ z. Slice z × (size ≤ length z);
+  Fits = λ z. Slice z × (most ≤ length z);
   session = λ z. readSession (recordAt z) .1;
-  put = λ z x. bytesOf x ++ drop size z;
+  put = λ z x. bufferOf x ++ drop most z;
   tell = numberOfVerdict;
 }
 
@@ -69,4 +69,4 @@ Damaged s t = (1 ≤ apart s t) × (apart s t ≤ 2)
 unfoldable pub DamageSeen : Type 0
 DamageSeen =
     (m : Machine (List ℕ) ℕ) → Meets m → (x : Session) (session : List ℕ) (l : Lent) → isOpen x ≡ true → Slice session → Lends (sampling l)
-    → Damaged (bytesOf x) (recordAt session) → call m session (sampling l) ≡ record { told = 1; state = session; out = l .out }
+    → Damaged (bytesOf x) session → call m session (sampling l) ≡ record { told = 1; state = session; out = l .out }

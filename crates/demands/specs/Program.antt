@@ -1,14 +1,17 @@
 -- The Rattle program as a machine: session::none, session::open and session::sample. Definitions only; specs/Demands.antt says what is demanded
 -- of it.
 use mathlib.Core.Path.{_≡_}
-use mathlib.Core.List.{[], _∷_}
-use Prim.Native.Nat.{_^_, _<_}
+use mathlib.Core.List.{List, [], _∷_}
+use Prim.Native.Nat.{ℕ, _^_, _<_}
+use lib.ListN.{length}
 use borrow.Fn.World.{ArgsD}
 use contract.Lifetimes.{Lfts}
 use denote.Ref.{now}
 use denote.Triple.Clauses.{AtExit}
 use Rattle.bits.specs.Fields.{Fit}
 use Rattle.refusal.specs.declared.Verdict.{Verdict}
+use Rattle.blocks.specs.declared.Blocks.{Blocks}
+use Rattle.blocks.specs.Blocks.{most}
 use Rattle.consist.specs.Consist.{fieldsOf}
 use Rattle.brake.specs.Brake.{brakeTold}
 use Rattle.session.specs.declared.Session.{Session}
@@ -23,13 +26,27 @@ use Rattle.demands.specs.Machine.{Slice, Lends, sampling, Machine, ours,
 
 -- ---- a state is the session itself, and a verdict is told as it is
 
--- each field fits its word: of the consist and of the brake in the order of `fieldsOf` and `brakeTold`, and the two causes
+-- each number of a list fits a word of so many bits
+abbrev pub Words : ℕ → List ℕ → Type 0
+Words w [] = Unit {0}
+Words w (n ∷ ns) = (n < 2 ^ w) × Words w ns
+
+-- what a consist's blocks are held in
+pub record FitsBlocks (b : Blocks) : Type 0 where
+  pub count : b .count < 2 ^ 8
+  pub lengths-places : length (b .lengths) ≡ most
+  pub lengths : Words 16 (b .lengths)
+  pub weights-places : length (b .weights) ≡ most
+  pub weights : Words 16 (b .weights)
+
+-- each field fits its word: of the consist and of the brake in the order of `fieldsOf` and `brakeTold`, the two causes, and the consist's blocks
 abbrev pub FitsWords : Session → Type 0
 FitsWords x =
     Fit (16 ∷ 16 ∷ 16 ∷ 16 ∷ 32 ∷ 32 ∷ 16 ∷ 16 ∷ 16 ∷ []) (fieldsOf (x .consist))
     × Fit (8 ∷ 16 ∷ 16 ∷ 16 ∷ 16 ∷ 16 ∷ 16 ∷ 16 ∷ 32 ∷ 1 ∷ []) (brakeTold (x .brake))
     × (x .cause < 2 ^ 8)
     × (x .emergency < 2 ^ 8)
+    × FitsBlocks (x .consist .blocks)
 
 abbrev pub byValue : Holding Session Verdict
 byValue = record { Fits = FitsWords; session = λ x. x; put = λ x y. y; tell = λ v. v }

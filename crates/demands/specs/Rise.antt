@@ -4,6 +4,7 @@ use mathlib.Core.Bool.{Bool, true, false}
 use mathlib.Core.List.{[], _∷_}
 use Prim.Native.Nat.{ℕ}
 use lib.IntN.{pos, negsuc}
+use Rattle.blocks.specs.Blocks.{none}
 use Rattle.consist.specs.declared.Consist.{Consist}
 use Rattle.track.specs.declared.Track.{Track}
 use Rattle.walk.specs.Walk.{at, never, locationOf}
@@ -23,6 +24,7 @@ train rated = record {
   recharge = 50;
   set = 9000;
   offset = 500;
+  blocks = none;
 }
 
 -- level, up 1.5% from 5,200, down 2% from 6,000, level from 7,200, up 2% from 8,000; -200 is `negsuc 199`

@@ -9,14 +9,16 @@ use Rattle.bits.specs.Bytes.{Bytes}
 use Rattle.refusal.specs.declared.Verdict.{Verdict}
 use Rattle.refusal.specs.declared.Verdict.the-variants.{Accepted}
 use Rattle.refusal.specs.Number.{told}
+use Rattle.consist.specs.declared.Consist.{Consist}
 use Rattle.consist.specs.Consist as consist
+use Rattle.consist.specs.Consist.{readConsist}
 use Rattle.profile.specs.Profile.{size as profileSize, startsIn, gradesIn, curvaturesIn, judgeProfile, writeProfile}
 use Rattle.targets.specs.Targets.{size as targetsSize, judgeTargets, locationsIn, speedsIn, writeTargets}
 use Rattle.sample.specs.Sample.{size as sampleSize, ofFields, readSample, writeSample}
 use Rattle.decision.specs.declared.Decision.{Decision}
 use Rattle.decision.specs.Decision.{size as decisionSize, readDecision, writeDecision}
 use Rattle.held.specs.Held as held
-use Rattle.writes.specs.Written.{sampleWritten}
+use Rattle.writes.specs.Written.{sizeWith, manifestOf, writeManifest, sampleWritten}
 use Rattle.tells.specs.Judged.{decisionNumbers, numbersOf, decisionRead}
 
 -- ---- the law
@@ -45,6 +47,10 @@ readSegments p = let (v, n) = judgeProfile p in (v, (startsIn p n, gradesIn p n,
 abbrev pub readTargets : List ℕ → Verdict × (List ℕ × List ℕ)
 readTargets t = let (v, n) = judgeTargets t in (v, (locationsIn t n, speedsIn t n))
 
+-- a consist and the blocks that two lists are, of lengths and of weights
+abbrev pub Manifest : Type 0
+Manifest = Consist × List ℕ × List ℕ
+
 -- bytes are accepted and read as the raw sample of these fields: each reading is what its 32 bits stand for, as every f32 of the code is
 abbrev pub ReadsSample : List ℕ → List ℕ → Type 0
 ReadsSample s fields = readSample s ≡ (Accepted, ofFields fields)
@@ -52,14 +58,18 @@ ReadsSample s fields = readSample s ≡ (Accepted, ofFields fields)
 -- ---- the definitions that the calls are (`is` of specs/Calls.antt)
 
 pub record RoundTrips : Type 1 where
-  pub consist : RoundTrip (λ c. consist.size) (λ s c. consist.readConsist s ≡ (Accepted, c)) consist.writeConsist
+  pub consist : RoundTrip consist.sizeOf (λ s c. consist.readConsist s ≡ (Accepted, c)) consist.writeConsist
+  -- a writer of the same record, from lists
+  pub manifest : ReadsBack {C = Manifest} (λ (c, lengths, weights). sizeWith (length lengths))
+      (λ s (c, lengths, weights). readConsist s ≡ (Accepted, manifestOf c lengths weights)) Accepted
+      (λ (c, lengths, weights). writeManifest c lengths weights)
   pub profile :
       RoundTrip (λ c. profileSize * length (c .0)) (λ p c. readSegments p ≡ (Accepted, c)) (λ (starts, grades, curvatures). writeProfile starts grades curvatures)
   pub targets :
       RoundTrip (λ c. targetsSize * length (c .0)) (λ t c. readTargets t ≡ (Accepted, c)) (λ (locations, speeds). writeTargets locations speeds)
   pub sample : RoundTrip (λ fields. sampleSize) ReadsSample (λ fields. writeSample (ofFields fields))
   pub decision : RoundTrip (λ d. decisionSize) (λ s d. readDecision s ≡ (Accepted, d)) writeDecision
-  pub held : RoundTrip (λ x. held.size) (λ s x. held.readSession s ≡ (Accepted, x)) held.writeSession
+  pub held : RoundTrip held.sizeOf (λ s x. held.readSession s ≡ (Accepted, x)) held.writeSession
   -- for C the same holds of a writer above, told: where it tells 0
   pub told : {C : Type 0} (size : C → ℕ) (Reads : List ℕ → C → Type 0) (writes : C → List ℕ → Verdict × List ℕ)
       → ReadsBack size Reads Accepted writes → ReadsBack size Reads 0 (λ c out. told (writes c out))

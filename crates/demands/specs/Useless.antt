@@ -108,9 +108,9 @@ MeetsPredict w =
 abbrev pub WalkRepeatsStep : Walker → Type 0
 WalkRepeatsStep w =
     (c : Consist) (curve : Curve) (track : Track) (head v : ℕ) (speeds : List ℕ) → Walkable c curve track head v →
-    w c curve track head v speeds .stop ≡ stopAgain c (forceAt (c .rated) curve) (groundOf track (c .length)) head v
+    w c curve track head v speeds .stop ≡ stopAgain c (forceAt (c .rated) curve) (groundOf track c) head v
 
 -- one meets the contract, and none that does repeats the step
 pub record WalkNotUseless : Type 0 where
-  pub meets : MeetsPredict (λ c curve track head v speeds. predictOf c (forceAt (c .rated) curve) (groundOf track (c .length)) head v speeds)
+  pub meets : MeetsPredict (λ c curve track head v speeds. predictOf c (forceAt (c .rated) curve) (groundOf track c) head v speeds)
   pub repeats-step : (w : Walker) → MeetsPredict w → WalkRepeatsStep w → ⊥

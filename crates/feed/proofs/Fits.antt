@@ -1,22 +1,26 @@
 -- Lines lie within the bytes that they are put into, and what is taken of a part within those that hold it. Assumes nothing.
 use mathlib.Core.Path.{_≡_, refl, ap}
-use Prim.Native.Nat.{ℕ, _*_, _≤_}
+use Prim.Native.Nat.{ℕ, _+_, _*_, _≤_}
 use native.Mathlib.Omega.{arith}
 use native.Mathlib.Nat.{mul-le-mul-left}
 use mathlib.Core.Bool.{Bool, true, false, _&&_, cond}
 use mathlib.Core.List.{List}
-use lib.ListN.{length, replicate}
+use lib.ListN.{length, replicate, length-append}
+use lib.Seq.{length-take-le}
 use lib.Dec.{leb, eqb}
 use borrow.Author.Tests.{leb-true, eqb-true}
+use borrow.Rule.Slice.PartMut.{putMid}
 use Rattle.bits.specs.Bytes.{num}
+use Rattle.bits.proofs.Ranges.{and-true-right}
 use Rattle.refusal.specs.declared.Refusal.{Refusal}
 use Rattle.refusal.specs.declared.Verdict.{Verdict}
 use Rattle.table.specs.Table.{counted}
+use Rattle.blocks.specs.Blocks as blocks
 use Rattle.profile.specs.Profile as profile
 use Rattle.targets.specs.Targets as targets
 use Rattle.opening.specs.declared.Part.{Part}
 use Rattle.opening.specs.declared.Part.the-variants.{Bytes, Broken}
-use Rattle.opening.specs.Opening.{bytesIn, profileRoom, targetsRoom, profileCountSize, targetsCountSize, profileAhead, targetsAhead, announced, taken}
+use Rattle.opening.specs.Opening.{bytesIn, blocksRoom, profileRoom, targetsRoom, blocksCountSize, profileCountSize, targetsCountSize, blocksAhead, profileAhead, targetsAhead, announced, taken}
 use Rattle.line.specs.Line.{refusalText, sampleText, putLast, room}
 use Rattle.line.proofs.Fits.{refusal-fits, sample-fits}
 use Rattle.line.proofs.Put.{put-at}
@@ -37,22 +41,31 @@ module _ (n : ℕ) (now : List ℕ) where
 -- ---- parts
 
 -- no more bytes are announced than the most records have
-ahead-fits : (width least most size : ℕ) (s : List ℕ) → bytesIn (announced width (λ n. leb least n && leb n most) size s) ≤ size * most
-ahead-fits width least most size s = by (eqb (length s) width) (leb least (num s)) (leb (num s) most) refl
+ahead-fits : (width : ℕ) (counted : ℕ → Bool) (most size : ℕ) (s : List ℕ) → ((n : ℕ) → counted n ≡ true → n ≤ most)
+    → bytesIn (announced width counted size s) ≤ size * most
+ahead-fits width counted most size s h = by (eqb (length s) width) (counted (num s)) refl
   where
-    by : (a b c : Bool) → leb (num s) most ≡ c → bytesIn (cond (a && (b && c)) (Bytes (size * num s)) Broken) ≤ size * most
-    by true true true e = mul-le-mul-left size (leb-true (num s) most e)
-    by true true false e = omega arith
-    by true false c e = omega arith
-    by false b c e = omega arith
+    by : (a b : Bool) → counted (num s) ≡ b → bytesIn (cond (a && b) (Bytes (size * num s)) Broken) ≤ size * most
+    by true true e = mul-le-mul-left size (h (num s) e)
+    by true false e = omega arith
+    by false b e = omega arith
+
+-- a range of counts
+ranged : (least most n : ℕ) → leb least n && leb n most ≡ true → n ≤ most
+ranged least most n e = leb-true n most (and-true-right (leb least n) (leb n most) e)
+
+pub blocks-fits : (part : Part) (s : List ℕ) → part ≡ blocksAhead s → bytesIn part ≤ blocksRoom
+unfolding blocksAhead
+blocks-fits part s e =
+    omega (arith, ap bytesIn e, ahead-fits blocksCountSize (λ n. leb n blocks.most) blocks.most blocks.size s (λ n. leb-true n blocks.most))
 
 pub profile-fits : (part : Part) (s : List ℕ) → part ≡ profileAhead s → bytesIn part ≤ profileRoom
 unfolding profileAhead counted
-profile-fits part s e = omega (arith, ap bytesIn e, ahead-fits profileCountSize profile.fewest profile.most profile.size s)
+profile-fits part s e = omega (arith, ap bytesIn e, ahead-fits profileCountSize profile.counted profile.most profile.size s (ranged profile.fewest profile.most))
 
 pub targets-fits : (part : Part) (s : List ℕ) → part ≡ targetsAhead s → bytesIn part ≤ targetsRoom
 unfolding targetsAhead counted
-targets-fits part s e = omega (arith, ap bytesIn e, ahead-fits targetsCountSize targets.fewest targets.most targets.size s)
+targets-fits part s e = omega (arith, ap bytesIn e, ahead-fits targetsCountSize targets.counted targets.most targets.size s (ranged targets.fewest targets.most))
 
 -- no more bytes are taken than came
 pub taken-fits : (part ahead : Part) (came : ℕ) (right : Bool) → part ≡ taken ahead came right → bytesIn part ≤ came
@@ -64,3 +77,7 @@ taken-fits part (Bytes size) came right e = omega (arith, ap bytesIn e, by (eqb 
     by true true e = omega (arith, eqb-true came size e)
     by true false e = omega arith
     by false b e = omega arith
+
+-- what is taken of a part that was read behind the first `a` bytes ends within all of them
+pub behind-fits : (part : Part) (n a k : ℕ) (xs ys : List ℕ) → a ≤ length xs → bytesIn part ≤ length ys → part ≡ Bytes n → a + n ≤ length (putMid a k xs ys)
+behind-fits part n a k xs ys h i e = simp length-append (omega (arith, length-take-le a xs h, ap bytesIn e, i))

@@ -21,9 +21,16 @@ targets = 0 ∷ 21 ∷ 155 ∷ 0 ∷ 0 ∷ []
 abbrev pub sample : ℕ → ℕ → ℕ → List ℕ
 sample time a b = 83 ∷ 0 ∷ 0 ∷ time ∷ 128 ∷ 0 ∷ 19 ∷ 136 ∷ a ∷ b ∷ 0 ∷ 0 ∷ 66 ∷ 180 ∷ 0 ∷ 0 ∷ 66 ∷ 180 ∷ 0 ∷ 0 ∷ []
 
--- two records of profile, one target
+-- no blocks, two records of profile, one target
 abbrev pub opening : List ℕ
-opening = consist ++ 0 ∷ 2 ∷ profile ++ 1 ∷ targets
+opening = consist ++ 0 ∷ 0 ∷ 2 ∷ profile ++ 1 ∷ targets
+
+-- blocks (02, R-1): one of 600 ft and 1,000 tons; and two, of 200 ft and 700 tons and of 400 ft and 300 tons
+abbrev pub block : List ℕ
+block = 4 ∷ 176 ∷ 15 ∷ 160 ∷ []
+
+abbrev pub blocks : List ℕ
+blocks = 1 ∷ 144 ∷ 10 ∷ 240 ∷ 3 ∷ 32 ∷ 4 ∷ 176 ∷ []
 
 -- 0, 5,000, 0.0
 abbrev pub first : List ℕ
@@ -75,6 +82,10 @@ thirdLines = thirdLine ++ thirdEmergency
 abbrev pub crossed : ℕ → List ℕ
 crossed digit = 120 ∷ 32 ∷ digit ∷ 10 ∷ []
 
+-- `x 13`
+abbrev pub thirteen : List ℕ
+thirteen = 120 ∷ 32 ∷ 49 ∷ 51 ∷ 10 ∷ []
+
 pub record Case : Type 0 where
   pub whole-output : outputOf (opening ++ first ++ second ++ third) ≡ firstLines ++ secondLines ++ thirdLines
   -- the last 5 bytes do not come: `x 2`
@@ -86,6 +97,16 @@ pub record Case : Type 0 where
   -- no bytes at all: `x 2`
   pub no-consist : outputOf [] ≡ crossed 50
   -- a profile of 1 record: `x 6`
-  pub one-record : outputOf (consist ++ 0 ∷ 1 ∷ profile ++ 1 ∷ targets ++ first) ≡ crossed 54
+  pub one-record : outputOf (consist ++ 0 ∷ 0 ∷ 1 ∷ profile ++ 1 ∷ targets ++ first) ≡ crossed 54
   -- 9 targets: `x 7`
-  pub nine-targets : outputOf (consist ++ 0 ∷ 2 ∷ profile ++ 9 ∷ targets ++ first) ≡ crossed 55
+  pub nine-targets : outputOf (consist ++ 0 ∷ 0 ∷ 2 ∷ profile ++ 9 ∷ targets ++ first) ≡ crossed 55
+  -- on level track blocks change nothing
+  pub level-blocks : outputOf (consist ++ 2 ∷ blocks ++ 0 ∷ 2 ∷ profile ++ 1 ∷ targets ++ first ++ second ++ third) ≡ firstLines ++ secondLines ++ thirdLines
+  -- no count, 65 blocks, one of two missing: `x 13`
+  pub no-count : outputOf consist ≡ thirteen
+  pub too-many-blocks : outputOf (consist ++ 65 ∷ blocks) ≡ thirteen
+  pub short-blocks : outputOf (consist ++ 2 ∷ block) ≡ thirteen
+  -- one whose length and weight are not the consist's: `x 13`
+  pub wrong-sums : outputOf (consist ++ 1 ∷ take 4 blocks ++ 0 ∷ 2 ∷ profile ++ 1 ∷ targets ++ first) ≡ thirteen
+  -- 96 tons for 10 cars, whatever follows: `x 5`
+  pub too-light-first : outputOf (set consist 3 12 ++ 65 ∷ blocks) ≡ crossed 53

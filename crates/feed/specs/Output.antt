@@ -3,7 +3,7 @@ use Prim.Native.Nat.{ℕ, _+_, _-_, _/_}
 use mathlib.Core.List.{List, [], _∷_, _++_}
 use lib.ListN.{length, take, drop, replicate}
 use Rattle.bits.specs.Tables.{upTo, part}
-use Rattle.refusal.specs.declared.Refusal.the-variants.{BrokenProfile, BrokenTargets}
+use Rattle.refusal.specs.declared.Refusal.the-variants.{BrokenProfile, BrokenTargets, BrokenBlocks}
 use Rattle.refusal.specs.declared.Verdict.{Verdict}
 use Rattle.refusal.specs.declared.Verdict.the-variants.{Accepted, Refused}
 use Rattle.consist.specs.Consist as consist
@@ -15,7 +15,7 @@ use Rattle.session.specs.Open.{openOf}
 use Rattle.sampling.specs.Sample.{sampleCall}
 use Rattle.opening.specs.declared.Part.{Part}
 use Rattle.opening.specs.declared.Part.the-variants.{Bytes, Broken}
-use Rattle.opening.specs.Opening.{bytesIn, profileCountSize, targetsCountSize, profileAhead, targetsAhead, profileTaken, targetsTaken}
+use Rattle.opening.specs.Opening.{bytesIn, blocksRoom, blocksCountSize, profileCountSize, targetsCountSize, blocksAhead, profileAhead, targetsAhead, blocksTaken, profileTaken, targetsTaken}
 use Rattle.line.specs.Line.{refusalText, sampleText}
 
 -- ---- "The session program reads standard input": each part takes its bytes from what is left, or as many as there are
@@ -27,16 +27,31 @@ consistBytes feed = take consist.size feed
 abbrev pub afterConsist : List ℕ → List ℕ
 afterConsist feed = drop consist.size feed
 
+-- the bytes of a consist with the most blocks
+abbrev pub consistRoom : ℕ
+consistRoom = consist.size + blocksRoom
+
+-- "a one-byte block count follows the consist" (02, R-1)
+abbrev pub blocksAnnounced : List ℕ → Part
+blocksAnnounced feed = blocksAhead (take blocksCountSize (afterConsist feed))
+
+-- and blocks
+abbrev pub blocksBytes : List ℕ → List ℕ
+blocksBytes feed = take (bytesIn (blocksAnnounced feed)) (drop blocksCountSize (afterConsist feed))
+
+abbrev pub afterBlocks : List ℕ → List ℕ
+afterBlocks feed = drop (blocksCountSize + bytesIn (blocksAnnounced feed)) (afterConsist feed)
+
 -- "two-byte record count (high byte first)"
 abbrev pub profileAnnounced : List ℕ → Part
-profileAnnounced feed = profileAhead (take profileCountSize (afterConsist feed))
+profileAnnounced feed = profileAhead (take profileCountSize (afterBlocks feed))
 
 -- "and profile"
 abbrev pub profileBytes : List ℕ → List ℕ
-profileBytes feed = take (bytesIn (profileAnnounced feed)) (drop profileCountSize (afterConsist feed))
+profileBytes feed = take (bytesIn (profileAnnounced feed)) (drop profileCountSize (afterBlocks feed))
 
 abbrev pub afterProfile : List ℕ → List ℕ
-afterProfile feed = drop (profileCountSize + bytesIn (profileAnnounced feed)) (afterConsist feed)
+afterProfile feed = drop (profileCountSize + bytesIn (profileAnnounced feed)) (afterBlocks feed)
 
 -- "one-byte count"
 abbrev pub targetsAnnounced : List ℕ → Part
@@ -64,6 +79,12 @@ linesOf x p t (s ∷ ss) =
     let rest = linesOf (answer .0 .session) p t ss in
     sampleText (answer .0 .verdict) (answer .1) ++ rest
 
+-- the verdict on the consist: 2, 4 and 5 on its 16 bytes alone; 13 where the blocks are not taken; then that on all of it
+abbrev pub consistVerdict : (alone : Verdict) → Part → (whole : Verdict) → Verdict
+consistVerdict (Refused r) blocks whole = Refused r
+consistVerdict Accepted Broken whole = Refused BrokenBlocks
+consistVerdict Accepted (Bytes n) whole = whole
+
 -- by the verdict on the consist, the profile and the targets that were taken, and the lines of the samples
 abbrev pub printed : Verdict → Part → Part → List ℕ → List ℕ
 -- "A refused consist prints `x` and its number and ends"
@@ -79,8 +100,10 @@ printed Accepted (Bytes n) (Bytes m) lines = lines
 -- program.
 unfoldable pub outputOf : List ℕ → List ℕ
 outputOf feed =
-    let answer = openOf noneOpen (consistBytes feed) in
+    let alone = openOf noneOpen (consistBytes feed) in
+    let blocks = blocksTaken (blocksAnnounced feed) (blocksBytes feed) in
+    let answer = openOf noneOpen (consistBytes feed ++ blocksBytes feed) in
     let profile = profileTaken (profileAnnounced feed) (profileBytes feed) in
     let targets = targetsTaken (targetsAnnounced feed) (targetsBytes feed) in
     let lines = linesOf (answer .session) (profileBytes feed) (targetsBytes feed) (samplesIn feed) in
-    printed (answer .verdict) profile targets lines
+    printed (consistVerdict (alone .verdict) blocks (answer .verdict)) profile targets lines

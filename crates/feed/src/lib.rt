@@ -4,6 +4,8 @@
 use consist::Consist;
 use decision::Decision;
 use line::ROOM;
+use opening::BLOCKS_COUNT_SIZE;
+use opening::BLOCKS_ROOM;
 use opening::PROFILE_COUNT_SIZE;
 use opening::PROFILE_ROOM;
 use opening::Part;
@@ -18,7 +20,11 @@ ghost use mathlib.Core.Path.{_≡_};
 ghost use Prim.Native.Nat.{_≤_};
 ghost use lib.ListN.{length};
 ghost use Rattle.io.specs.Counts.{Counts};
-ghost use Rattle.opening.specs.Opening.{bytesIn, profileRoom, targetsRoom};
+ghost use Rattle.opening.specs.Opening.{bytesIn, blocksRoom, profileRoom, targetsRoom};
+ghost use Rattle.feed.specs.Output.{consistRoom};
+
+// Bytes that hold a consist with the most blocks.
+const CONSIST_ROOM: usize = Consist::SIZE + BLOCKS_ROOM;
 
 // The session after a sample, and whether another may follow.
 struct Turn {
@@ -47,12 +53,6 @@ fn print_sample(output: i32, v: Verdict, decisions: &[u8]) -> bool {
     write_lines(output, &text, from)
 }
 
-fn read_consist(input: i32) -> Answer {
-    let mut consist = [0u8; Consist::SIZE];
-    let n = io::read_full(input, &mut consist);
-    session::open(session::none(), &consist[..n])
-}
-
 // Reads `size` bytes to the front of `s`, and answers how many came.
 fn read_front(input: i32, size: usize, s: &mut [u8]) -> usize
     requires { ⌜ size ≤ length (now s) ⌝ }
@@ -68,6 +68,45 @@ fn bytes_in(part: Part) -> usize
     match part {
         Part::Bytes(n) => n,
         Part::Broken => 0,
+    }
+}
+
+// Reads the count of blocks, and then the blocks to the front of `b`.
+fn read_blocks(input: i32, b: &mut [u8]) -> Part
+    requires { ⌜ blocksRoom ≤ length (now b) ⌝ }
+    ensures { λ r. ⌜ bytesIn r ≤ length (now (b .exit)) ⌝ }
+{
+    let mut count = [0u8; BLOCKS_COUNT_SIZE];
+    let n = io::read_full(input, &mut count);
+    let ahead = opening::blocks_ahead(&count[..n]);
+    let came = read_front(input, bytes_in(ahead), b);
+    opening::blocks_taken(ahead, &b[..came])
+}
+
+// Reads the blocks behind the consist's 16 bytes in `s`, and opens a session with all of it.
+fn open_with_blocks(input: i32, s: &mut [u8]) -> Answer
+    requires { ⌜ consistRoom ≤ length (now s) ⌝ }
+{
+    let Part::Bytes(n) = read_blocks(input, &mut s[Consist::SIZE..]) else {
+        return Answer {
+            session: session::none(),
+            verdict: Verdict::Refused(Refusal::BrokenBlocks),
+        };
+    };
+    session::open(session::none(), &s[..Consist::SIZE + n])
+}
+
+// Reads a consist to the front of `s`, and opens a session with it. Its 16 bytes are judged by themselves before its blocks are
+// read.
+fn read_consist(input: i32, s: &mut [u8]) -> Answer
+    requires { ⌜ consistRoom ≤ length (now s) ⌝ }
+{
+    let n = read_front(input, Consist::SIZE, s);
+    let alone = session::open(session::none(), &s[..n]);
+    let verdict = alone.verdict;
+    match verdict {
+        Verdict::Accepted => open_with_blocks(input, s),
+        Verdict::Refused(_) => alone,
     }
 }
 
@@ -132,9 +171,10 @@ fn answer_all(input: i32, output: i32, x: Session, p: &[u8], t: &[u8]) {
     }
 }
 
-// Runs a feed: consist, profile, targets, then samples.
+// Runs a feed: consist and blocks, profile, targets, then samples.
 pub fn run(input: i32, output: i32) {
-    let answer = read_consist(input);
+    let mut consist = [0u8; CONSIST_ROOM];
+    let answer = read_consist(input, &mut consist);
     let verdict = answer.verdict;
     if let Verdict::Refused(r) = verdict {
         print_refusal(output, r);

@@ -1,5 +1,6 @@
-// The record of an open session, 41 bytes, for a customer who keeps the session in bytes from call to call and across a restart: its constants and
-// its reader. Crate `stored` writes it.
+// The record of an open session, for a customer who keeps the session in bytes from call to call and across a restart: its constants and its reader.
+// Crate `stored` writes it. It has a front of 41 bytes; where the consist has blocks, these follow it, with a check word of their own.
+use blocks::Blocks;
 use brake::Brake;
 use consist::Consist;
 use refusal::Refusal;
@@ -8,19 +9,27 @@ use refusal::Verdict;
 use session::Answer;
 use session::Session;
 ghost use mathlib.Core.Path.{_≡_};
+ghost use Prim.Native.Nat.{_≤_};
+ghost use lib.ListN.{length, getD};
 ghost use Rattle.refusal.specs.declared.Refusal.the-variants.{NoSession};
 ghost use Rattle.session.specs.Session.{answerTold};
-ghost use Rattle.held.specs.Held.{ofFields, fieldsAt, recordAt, noRecord, refusedWith, readTold, readSession};
+ghost use Rattle.held.specs.Held.{hasBlocks, countIn, sizeFor, most, ofFields, fieldsAt, noFront, noRecord, recordAt, refusedWith, readTold, readFront, readSession};
 
-// Bytes of the record.
+// Bytes of the front.
 pub const SIZE: usize = 41;
 
-// Bytes of its own fields; the consist's record stands behind them, and the check word of both at the end.
+// Bytes of its own fields; the consist without its blocks stands behind them, and the check word of both at the end.
 pub const OWN: usize = 21;
 
 pub const BODY: usize = OWN + Consist::SIZE;
 
+// The mark of a record without blocks; with blocks it is their count and what is below it.
 pub const MARK: u64 = 0x4255;
+
+pub const LETTER: u64 = 0x4200;
+
+// Bytes of the longest record; a session buffer has as many, or more.
+pub const MOST: usize = SIZE + Blocks::SIZE * Blocks::MOST + seal::SIZE;
 
 fn refused() -> Answer
     ensures { λ a. ⌜ answerTold a ≡ readTold (refusedWith NoSession) ⌝ }
@@ -32,12 +41,50 @@ fn refused() -> Answer
     }
 }
 
-// Not 41 bytes, not sealed, another mark, or a state above 5.
+// Whether a mark tells of blocks, 1 to 64.
+fn has_blocks(mark: u64) -> bool
+    ensures { λ r. ⌜ r ≡ hasBlocks mark ⌝ }
+{
+    (LETTER < mark) & (mark <= LETTER + Blocks::MOST as u64)
+}
+
+// Bytes of the record with this front.
+fn size_at(front: &[u8]) -> usize
+    ensures { λ r. ⌜ (r ≡ sizeFor (countIn (getD (fieldsAt (now (front .entry))) 0 0))) × (r ≤ most) ⌝ }
+{
+    let mark = bits::field(front, 0, 16);
+    if !has_blocks(mark) {
+        return SIZE;
+    }
+    SIZE + Blocks::SIZE * (mark - LETTER) as usize + seal::SIZE
+}
+
+// Not sealed, a wrong mark, or a state above 5.
+fn no_front(s: &[u8]) -> bool
+    ensures { λ r. ⌜ r ≡ noFront (now (s .entry)) ⌝ }
+{
+    let is_sealed = seal::is_sealed(s);
+    let mark = bits::field(s, 0, 16);
+    let marked = (mark == MARK) | has_blocks(mark);
+    !is_sealed | !marked | (bits::field(s, 25, 7) > 5)
+}
+
+// Not as many bytes as there are with its blocks, no front, or blocks that are not sealed.
 fn no_record(s: &[u8]) -> bool
     ensures { λ r. ⌜ r ≡ noRecord (now (s .entry)) ⌝ }
 {
-    let is_sealed = seal::is_sealed(s);
-    (s.len() != SIZE) | !is_sealed | (bits::field(s, 0, 16) != MARK) | (bits::field(s, 25, 7) > 5)
+    if s.len() < SIZE {
+        return true;
+    }
+    if s.len() != size_at(&s[..SIZE]) {
+        return true;
+    }
+    let front = no_front(&s[..SIZE]);
+    if s.len() == SIZE {
+        return front;
+    }
+    let is_sealed = seal::is_sealed(&s[SIZE..]);
+    front | !is_sealed
 }
 
 // The open session of a record's own fields and a consist, whatever the mark.
@@ -69,6 +116,20 @@ fn of_bytes(s: &[u8], c: Consist) -> Session
     }
 }
 
+// The session of a front's fields and this consist, where it is open.
+fn read_front(s: &[u8], c: Consist) -> Answer
+    ensures { λ r. ⌜ answerTold r ≡ readTold (readFront (now (s .entry)) c) ⌝ }
+{
+    let x = of_bytes(s, c);
+    let Step::On = refusal::unless(!session::is_open(x)) else {
+        return refused();
+    };
+    Answer {
+        verdict: Verdict::Accepted,
+        session: x,
+    }
+}
+
 // The session of a record; where it is refused, the one before any opening.
 pub fn read(s: &[u8]) -> Answer
     ensures { λ r. ⌜ answerTold r ≡ readTold (readSession (now (s .entry))) ⌝ }
@@ -82,22 +143,24 @@ pub fn read(s: &[u8]) -> Answer
         return refused();
     };
     let c = found.consist;
-    let x = of_bytes(s, c);
-    let Step::On = refusal::unless(!session::is_open(x)) else {
+    if s.len() == SIZE {
+        return read_front(&s[..SIZE], c);
+    }
+    let end = s.len() - seal::SIZE;
+    let Step::On = refusal::unless(blocks::is_broken(&s[SIZE..end], c.length, c.weight)) else {
         return refused();
     };
-    Answer {
-        verdict: Verdict::Accepted,
-        session: x,
-    }
+    let b = Blocks::laid(&s[SIZE..end]);
+    read_front(&s[..SIZE], c.with_blocks(b))
 }
 
-// The session of the record that the bytes begin with; a shorter buffer has none.
+// The session of the record that a session buffer begins with; one of fewer bytes than the longest record has none.
 pub fn read_start(s: &[u8]) -> Answer
     ensures { λ r. ⌜ answerTold r ≡ readTold (readSession (recordAt (now (s .entry)))) ⌝ }
 {
-    if s.len() < SIZE {
-        return read(s);
+    if s.len() < MOST {
+        return refused();
     }
-    read(&s[..SIZE])
+    let size = size_at(&s[..SIZE]);
+    read(&s[..size])
 }

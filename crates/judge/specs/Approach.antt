@@ -23,9 +23,9 @@ pub record Approach : Type 0 where
 abbrev pub force : Approach → ℕ → ℕ
 force x = forceAt (x .consist .rated) (penaltyCurve (x .consist) (x .a) (x .b))
 
--- "Train from head minus length to head. G and C are the sums .. under the train"
+-- "Train from head minus length to head. G and C are the sums .. under the train"; with blocks, "averaged by weight"
 abbrev pub ground : Approach → Ground
-ground x = groundOf (x .track) (x .consist .length)
+ground x = groundOf (x .track) (x .consist)
 
 -- "The location for a target speed"; for the stop, 0
 unfoldable pub arrivalOf : Approach → ℕ → Arrival

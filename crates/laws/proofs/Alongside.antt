@@ -1,13 +1,13 @@
 -- Two trains alongside each other, under any two brake forces of which the first is weaker: the walk's comparison at their approaches, and the first
 -- target that is called for. Assumes nothing.
-use mathlib.Core.Path.{_≡_, refl, sym, ap₂, subst₂}
+use mathlib.Core.Path.{_≡_, refl, sym, subst₂}
 use mathlib.Core.Bool.{Bool, true, false, cond}
 use Prim.Native.Nat.{ℕ, zero, suc, _≤_, _<_}
 use native.Mathlib.Nat.{le-refl}
 use native.Mathlib.Omega.{arith}
 use Rattle.record.specs.Location.{farthest, noStop}
 use Rattle.consist.specs.Sound.{Sound}
-use Rattle.step.specs.Step.{Ground, groundOf}
+use Rattle.step.specs.Step.{Ground}
 use Rattle.walk.specs.Walk.{Arrival, at, never, arrivalFor, locationOf}
 use Rattle.walk.proofs.Reach.{NoFurther, arrival-no-further}
 use Rattle.judge.specs.Judge.{firstFrom}
@@ -41,6 +41,7 @@ pub record Alongside (one other : Approach) : Type 0 where
   pub axles : one .consist .axles ≡ other .consist .axles
   pub weight : one .consist .weight ≡ other .consist .weight
   pub length : one .consist .length ≡ other .consist .length
+  pub blocks : one .consist .blocks ≡ other .consist .blocks
   pub track : one .track ≡ other .track
   pub head : one .head ≡ other .head
 
@@ -55,11 +56,14 @@ module _ (one other : Approach) (f g : ℕ → ℕ) (s : Sound (one .consist)) (
   heavy : Heavy (one .consist)
   heavy = record { some = omega arith; enough = s .heavy }
 
+  same-ground : ground other ≡ ground one
+  same-ground = rw (w .track, w .length, w .weight, w .blocks)
+
   pub not-short : (u : ℕ) → NotShort (arrivalUnder one f u) (arrivalUnder other g u)
   unfolding NeverShort
   not-short u =
       subst₂ (λ (x : Ground) (n : ℕ). NotShort (arrivalFor (one .consist) f x n (one .speed) u) (arrivalUnder other g u))
-      (sym (ap₂ groundOf (w .track) (w .length))) (sym (w .head))
+      same-ground (sym (w .head))
       (never-short (one .consist) (other .consist) f g (ground other) (other .head) (one .speed) (other .speed) u heavy alike weaker (w .speed))
 
   pub farther : (u : ℕ) → locationOf (arrivalUnder other g u) ≤ locationOf (arrivalUnder one f u)

@@ -50,6 +50,7 @@ module _ (one other : Approach) (s : Sound (one .consist)) (s′ : Sound (other 
     axles = w .axles;
     weight = w .weight;
     length = w .length;
+    blocks = w .blocks;
     track = w .track;
     head = w .head;
   }

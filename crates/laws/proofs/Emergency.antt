@@ -42,6 +42,7 @@ module _ (one other : Emergency) (s : Sound (one .approach .consist)) (h : one .
     axles = w .axles;
     weight = w .weight;
     length = w .length;
+    blocks = w .blocks;
     track = w .track;
     head = w .head;
   }

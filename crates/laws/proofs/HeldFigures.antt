@@ -4,15 +4,16 @@ use Rattle.bits.specs.Places.{lies, fieldAt}
 use Rattle.refusal.specs.Lowest.{lowest}
 use Rattle.record.specs.Record.{wrongLength}
 use Rattle.seal.specs.Seal.{checkWord, sealed, isSealed}
+use Rattle.blocks.proofs.Computing.{computing}
 use Rattle.consist.specs.Consist as consist
 use Rattle.brake.specs.Brake.{isAtOpening}
 use Rattle.brake.specs.Sound as brake
 use Rattle.session.specs.Session.{isOpen}
-use Rattle.held.specs.Held.{sessionIn, bytesOf, noRecord, noSession, readSession}
+use Rattle.held.specs.Held.{countIn, wrongMark, frontOf, bytesOf, sessionIn, noFront, noRecord, isBroken, noSession, readSession}
 use Rattle.laws.specs.HeldFigures.{Figures}
 
 pub figures : Figures
-unfolding lies fieldAt wrongLength checkWord sealed isSealed sessionIn bytesOf noRecord noSession readSession lowest isOpen isAtOpening consist.consistIn consist.bytesOf consist.inRange consist.tooLight consist.isSound brake.isSound
+unfolding lies fieldAt wrongLength checkWord sealed isSealed computing countIn wrongMark frontOf bytesOf sessionIn noFront noRecord isBroken noSession readSession lowest isOpen isAtOpening consist.consistIn consist.frontOf consist.inRange consist.tooLight consist.soundBlocks consist.isSound brake.isSound
 figures = record {
   written = refl;
   read = refl;
@@ -31,4 +32,13 @@ figures = record {
   a-ton-less = refl;
   a-byte-less = refl;
   not-sealed = refl;
+  manifest-written = refl;
+  manifest-read = refl;
+  count-other = refl;
+  count-0 = refl;
+  none-sealed = refl;
+  count-65 = refl;
+  blocks-not-sealed = refl;
+  spare-bit = refl;
+  a-ton-off = refl;
 }

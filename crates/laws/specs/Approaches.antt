@@ -18,6 +18,7 @@ pub record Worse (one other : Approach) : Type 0 where
   pub axles : one .consist .axles ≡ other .consist .axles
   pub weight : one .consist .weight ≡ other .consist .weight
   pub length : one .consist .length ≡ other .consist .length
+  pub blocks : one .consist .blocks ≡ other .consist .blocks
   pub set : one .consist .set ≡ other .consist .set
   pub a : one .a ≡ other .a
   pub b : one .b ≡ other .b

@@ -16,6 +16,7 @@ pub record EmergencyWorse (one other : Emergency) : Type 0 where
   pub axles : one .approach .consist .axles ≡ other .approach .consist .axles
   pub weight : one .approach .consist .weight ≡ other .approach .consist .weight
   pub length : one .approach .consist .length ≡ other .approach .consist .length
+  pub blocks : one .approach .consist .blocks ≡ other .approach .consist .blocks
   pub a : one .approach .a ≡ other .approach .a
   pub b : one .approach .b ≡ other .approach .b
   pub equalization : one .equalization ≡ other .equalization

@@ -8,6 +8,7 @@ use Rattle.bits.specs.Bytes.{bytesFrom}
 use Rattle.refusal.specs.declared.Refusal.the-variants.{NoSession}
 use Rattle.refusal.specs.declared.Verdict.the-variants.{Accepted}
 use Rattle.seal.specs.Seal.{sealed}
+use Rattle.blocks.specs.Blocks as blocks
 use Rattle.consist.specs.Consist as consist
 use Rattle.consist.specs.Figures.{weighing, train}
 use Rattle.brake.specs.declared.State.the-variants.{Charged}
@@ -43,10 +44,21 @@ standing penalty emergency = record {
 -- the bytes of one just opened, with mark, causes, state, A and the train's weight left open
 abbrev pub body : ℕ → ℕ → ℕ → ℕ → ℕ → ℕ → List ℕ
 body m cause emergency state a weight =
-    bytesFrom own widths (m ∷ cause ∷ emergency ∷ 0 ∷ state ∷ 9000 ∷ a ∷ 0 ∷ 0 ∷ 0 ∷ 0 ∷ 0 ∷ 0 ∷ []) ++ consist.bytesOf (weighing weight)
+    bytesFrom own widths (m ∷ cause ∷ emergency ∷ 0 ∷ state ∷ 9000 ∷ a ∷ 0 ∷ 0 ∷ 0 ∷ 0 ∷ 0 ∷ 0 ∷ []) ++ consist.frontOf (weighing weight)
 
 abbrev pub bytes : ℕ → ℕ → ℕ → ℕ → ℕ → ℕ → List ℕ
 bytes m cause emergency state a weight = sealed (body m cause emergency state a weight)
+
+-- the session of that train as two blocks, 200 ft with 300 tons and 400 ft with 700, just opened
+abbrev pub twoBlocks : List ℕ
+twoBlocks = 1 ∷ 144 ∷ 4 ∷ 176 ∷ 3 ∷ 32 ∷ 10 ∷ 240 ∷ []
+
+abbrev pub manifest : Session
+manifest = openedWith (consist.withBlocks train (blocks.layOf twoBlocks))
+
+-- its bytes, with mark and what is behind the front left open
+abbrev pub withBehind : ℕ → List ℕ → List ℕ
+withBehind m behind = bytes m 0 0 0 9000 1000 ++ behind
 
 pub record Figures : Type 0 where
   pub written : bytesOf justOpened ≡ 66 ∷ 85 ∷ 0 ∷ 0 ∷ 35 ∷ 40 ∷ 35 ∷ 40 ∷ 0 ∷ 0 ∷ 0 ∷ 0 ∷ 0 ∷ 0 ∷ 0 ∷ 0 ∷ 0 ∷ 0 ∷ 0 ∷ 0 ∷ 0 ∷ 5 ∷ 2 ∷ 128 ∷ 125 ∷ 0 ∷ 150 ∷ 0 ∷ 195 ∷ 80 ∷ 7 ∷ 83 ∷ 0 ∷ 202 ∷ 50 ∷ 129 ∷ 244 ∷ 6 ∷ 165 ∷ 77 ∷ 89 ∷ []
@@ -73,3 +85,15 @@ pub record Figures : Type 0 where
   pub a-byte-less : readSession (take 40 (bytes mark 0 0 0 9000 1000)) ≡ refusedWith NoSession
   -- a check word of zeros
   pub not-sealed : readSession (body mark 0 0 0 9000 1000 ++ 0 ∷ 0 ∷ 0 ∷ 0 ∷ []) ≡ refusedWith NoSession
+  -- blocks stand behind the front, and the mark tells how many
+  pub manifest-written : bytesOf manifest ≡ 66 ∷ 2 ∷ 0 ∷ 0 ∷ 35 ∷ 40 ∷ 35 ∷ 40 ∷ 0 ∷ 0 ∷ 0 ∷ 0 ∷ 0 ∷ 0 ∷ 0 ∷ 0 ∷ 0 ∷ 0 ∷ 0 ∷ 0 ∷ 0 ∷ 5 ∷ 2 ∷ 128 ∷ 125 ∷ 0 ∷ 150 ∷ 0 ∷ 195 ∷ 80 ∷ 7 ∷ 83 ∷ 0 ∷ 202 ∷ 50 ∷ 129 ∷ 244 ∷ 6 ∷ 82 ∷ 65 ∷ 173 ∷ 1 ∷ 144 ∷ 4 ∷ 176 ∷ 3 ∷ 32 ∷ 10 ∷ 240 ∷ 2 ∷ 98 ∷ 8 ∷ 240 ∷ []
+  pub manifest-read : readSession (withBehind 0x4202 (sealed twoBlocks)) ≡ answer Accepted manifest
+  -- another count, or none written as 0, as blocks that are not there, or as a 65th
+  pub count-other : readSession (withBehind 0x4203 (sealed twoBlocks)) ≡ refusedWith NoSession
+  pub count-0 : readSession (withBehind 0x4200 []) ≡ refusedWith NoSession
+  pub none-sealed : readSession (withBehind mark (sealed [])) ≡ refusedWith NoSession
+  pub count-65 : readSession (withBehind 0x4241 []) ≡ refusedWith NoSession
+  -- a check word of zeros, a spare bit, and a ton less than the train's weight
+  pub blocks-not-sealed : readSession (withBehind 0x4202 (twoBlocks ++ 0 ∷ 0 ∷ 0 ∷ 0 ∷ [])) ≡ refusedWith NoSession
+  pub spare-bit : readSession (withBehind 0x4202 (sealed (1 ∷ 144 ∷ 4 ∷ 177 ∷ 3 ∷ 32 ∷ 10 ∷ 240 ∷ []))) ≡ refusedWith NoSession
+  pub a-ton-off : readSession (withBehind 0x4202 (sealed (1 ∷ 144 ∷ 4 ∷ 172 ∷ 3 ∷ 32 ∷ 10 ∷ 240 ∷ []))) ≡ refusedWith NoSession

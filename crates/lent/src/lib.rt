@@ -1,21 +1,63 @@
-// A session in lent bytes: its record, which crates `held` and `stored` read and write, stands at their start, and no call reads or writes a byte past it.
-// An answer is the refusal's number, 0 for none.
+// A session in lent bytes, its buffer: its record, which crates `held` and `stored` read and write, stands at their start, and zeros behind it, 301 bytes
+// in all. No call reads a byte past the record or writes one past these. An answer is the refusal's number, 0 for none.
+use held::MOST;
+use refusal::Refusal;
 use refusal::Verdict;
+use session::Session;
 ghost use mathlib.Core.Path.{_≡_};
-ghost use Rattle.lent.specs.Lent.{openBytes, sampleBytes, isOpenBytes};
+ghost use mathlib.Core.Bool.{true};
+ghost use mathlib.Core.List.{_++_};
+ghost use Prim.Native.Nat.{_≤_};
+ghost use lib.ListN.{length, drop};
+ghost use Rattle.session.specs.Session.{isOpen};
+ghost use Rattle.held.specs.Held.{most};
+ghost use Rattle.lent.specs.Lent.{zeros, bufferOf, withRoom, openBytes, sampleBytes, isOpenBytes};
 
-// Opens a session anew with the consist: writes its record to the start of `session`.
+// Sets every byte to zero.
+fn clear(s: &mut [u8])
+    ensures { λ _. ⌜ now (s .exit) ≡ zeros (length (now (s .entry))) ⌝ }
+{
+    for i in 0..s.len() {
+        s[i] = 0;
+    }
+}
+
+// Puts the session's buffer over the first 301 bytes.
+fn put(x: Session, session: &mut [u8])
+    requires opened { ⌜ isOpen x ≡ true ⌝ }
+    requires room { ⌜ most ≤ length (now session) ⌝ }
+    ensures { λ _. ⌜ now (session .exit) ≡ bufferOf x ++ drop most (now (session .entry)) ⌝ }
+{
+    clear(&mut session[..MOST]);
+    // not refused: the session is open, and there is room for any
+    stored::write(x, session);
+}
+
+// What an opening is told, where its consist is told this: 12 is below 13, and given where a buffer has too few bytes and nothing lower is due.
+fn with_room(told: u8, room: usize) -> u8
+    ensures { λ r. ⌜ r ≡ withRoom told room ⌝ }
+{
+    let full = refusal::number(Refusal::NoRoom);
+    if (room < MOST) & ((told == 0) | (full <= told)) {
+        return full;
+    }
+    told
+}
+
+// Opens a session anew with the consist: puts its buffer over the start of `session`.
 pub fn open(session: &mut [u8], consist: &[u8]) -> u8
     ensures { λ r. ⌜ (r, now (session .exit)) ≡ openBytes (now (consist .entry)) (now (session .entry)) ⌝ }
 {
     let answer = session::open(session::none(), consist);
     let verdict = answer.verdict;
-    let Verdict::Accepted = verdict else {
-        return refusal::verdict_number(verdict);
-    };
+    let told = refusal::verdict_number(verdict);
+    let number = with_room(told, session.len());
+    if number != 0 {
+        return number;
+    }
     let opened = answer.session;
-    let verdict = stored::write(opened, session);
-    refusal::verdict_number(verdict)
+    put(opened, session);
+    0
 }
 
 // Judges a sample, with the profile and the targets lent for it, moves the session on and writes the two decisions to the start of `decision`.
@@ -40,11 +82,11 @@ pub fn sample(
         return refusal::verdict_number(judged);
     };
     let next = answer.session;
-    let verdict = stored::write(next, session);
-    refusal::verdict_number(verdict)
+    put(next, session);
+    0
 }
 
-// Whether the bytes begin with an open session's record.
+// Whether the buffer begins with an open session's record.
 pub fn is_open(session: &[u8]) -> bool
     ensures { λ r. ⌜ r ≡ isOpenBytes (now (session .entry)) ⌝ }
 {

@@ -8,7 +8,7 @@ use Rattle.bits.specs.Bytes.{num}
 use Rattle.bits.proofs.Fields.{split-fit}
 use Rattle.bits.proofs.Bit.{bit-fits}
 use Rattle.refusal.specs.declared.Refusal.{Refusal}
-use Rattle.refusal.specs.declared.Refusal.the-variants.{NoSession, WrongLength, WrongMark, OutOfRange, TooLight, BrokenProfile, BrokenTargets, BadReading, WrongTime, NotCovered, NoRoom}
+use Rattle.refusal.specs.declared.Refusal.the-variants.{NoSession, WrongLength, WrongMark, OutOfRange, TooLight, BrokenProfile, BrokenTargets, BadReading, WrongTime, NotCovered, NoRoom, BrokenBlocks}
 use Rattle.refusal.specs.declared.Verdict.{Verdict}
 use Rattle.refusal.specs.declared.Verdict.the-variants.{Accepted, Refused}
 use Rattle.refusal.specs.Lowest.{lowest}
@@ -37,6 +37,7 @@ refusal-fits r = omega (arith, more (numberOf r) [] (small r))
     small WrongTime = omega arith
     small NotCovered = omega arith
     small NoRoom = omega arith
+    small BrokenBlocks = omega arith
 
 pub record-fits : (s : List ℕ) → length (recordText (readDecision s)) ≤ lineRoom
 unfolding readDecision decisionIn decisionText

@@ -1,12 +1,14 @@
--- "consist, two-byte record count (high byte first) and profile, one-byte count and targets": what a count announces, and when a list is taken. Definitions only.
+-- "consist, two-byte record count (high byte first) and profile, one-byte count and targets", and behind the consist (02, R-1) "a one-byte block count
+-- follows the consist": what a count announces, and when a list is taken. Definitions only.
 use Prim.Native.Nat.{ℕ, _*_}
 use mathlib.Core.List.{List}
 use mathlib.Core.Bool.{Bool, true, false, _&&_, cond}
 use lib.ListN.{length}
-use lib.Dec.{eqb}
+use lib.Dec.{leb, eqb}
 use Rattle.bits.specs.Bytes.{num}
 use Rattle.refusal.specs.declared.Verdict.{Verdict}
 use Rattle.refusal.specs.declared.Verdict.the-variants.{Accepted, Refused}
+use Rattle.blocks.specs.Blocks as blocks
 use Rattle.profile.specs.Profile as profile
 use Rattle.targets.specs.Targets as targets
 use Rattle.opening.specs.declared.Part.{Part}
@@ -18,6 +20,9 @@ bytesIn (Bytes n) = n
 bytesIn Broken = 0
 
 -- the bytes of the longest list
+abbrev pub blocksRoom : ℕ
+blocksRoom = blocks.size * blocks.most
+
 abbrev pub profileRoom : ℕ
 profileRoom = profile.size * profile.most
 
@@ -28,12 +33,19 @@ targetsRoom = targets.size * targets.most
 abbrev pub announced : ℕ → (ℕ → Bool) → ℕ → List ℕ → Part
 announced width counted size s = cond (eqb (length s) width && counted (num s)) (Bytes (size * num s)) Broken
 
--- "two-byte record count", "one-byte count"
+-- "a one-byte block count", "two-byte record count", "one-byte count"
+abbrev pub blocksCountSize : ℕ
+blocksCountSize = 1
+
 abbrev pub profileCountSize : ℕ
 profileCountSize = 2
 
 abbrev pub targetsCountSize : ℕ
 targetsCountSize = 1
+
+-- "a one-byte block count follows the consist, 0 for none", and it may announce up to 64
+unfoldable pub blocksAhead : List ℕ → Part
+blocksAhead s = announced blocksCountSize (λ n. leb n blocks.most) blocks.size s
 
 -- "two-byte record count (high byte first) and profile"
 unfoldable pub profileAhead : List ℕ → Part
@@ -52,6 +64,10 @@ isAccepted (Refused r) = false
 unfoldable pub taken : Part → ℕ → Bool → Part
 taken (Bytes size) came right = cond (eqb came size && right) (Bytes size) Broken
 taken Broken came right = Broken
+
+-- blocks of which some are missing are not taken; the others are judged with the consist that they follow
+abbrev pub blocksTaken : Part → List ℕ → Part
+blocksTaken ahead b = taken ahead (length b) true
 
 abbrev pub profileTaken : Part → List ℕ → Part
 profileTaken ahead p = taken ahead (length p) (isAccepted (profile.judgeProfile p .0))

@@ -1,4 +1,5 @@
 // What opens a feed: the counts, and the lists that they announce.
+use blocks::Blocks;
 use profile::Segment;
 use refusal::Verdict;
 use targets::Target;
@@ -6,14 +7,18 @@ ghost use mathlib.Core.Path.{_≡_};
 ghost use mathlib.Core.Bool.{_&&_};
 ghost use Prim.Native.Nat.{_*_, _^_, _<_, _≤_};
 ghost use lib.Dec.{leb};
-ghost use Rattle.opening.specs.Opening.{announced, profileAhead, targetsAhead, isAccepted, taken, profileTaken, targetsTaken};
+ghost use Rattle.opening.specs.Opening.{announced, blocksAhead, profileAhead, targetsAhead, isAccepted, taken, blocksTaken, profileTaken, targetsTaken};
 
 // Bytes of the count that stands before each list.
+pub const BLOCKS_COUNT_SIZE: usize = 1;
+
 pub const PROFILE_COUNT_SIZE: usize = 2;
 
 pub const TARGETS_COUNT_SIZE: usize = 1;
 
 // Bytes that hold the longest list.
+pub const BLOCKS_ROOM: usize = Blocks::SIZE * Blocks::MOST;
+
 pub const PROFILE_ROOM: usize = Segment::SIZE * Segment::MOST;
 
 pub const TARGETS_ROOM: usize = Target::SIZE * Target::MOST;
@@ -38,6 +43,13 @@ fn announced(count: &[u8], width: usize, least: usize, most: usize, size: usize)
     } else {
         Part::Broken
     }
+}
+
+// The blocks that a count announces.
+pub fn blocks_ahead(count: &[u8]) -> Part
+    ensures { λ r. ⌜ r ≡ blocksAhead (now (count .entry)) ⌝ }
+{
+    announced(count, BLOCKS_COUNT_SIZE, 0, Blocks::MOST, Blocks::SIZE)
 }
 
 // The profile that a count announces.
@@ -74,6 +86,13 @@ fn taken(ahead: Part, came: usize, judged: Verdict) -> Part
         Verdict::Accepted => Part::Bytes(size),
         Verdict::Refused(_) => Part::Broken,
     }
+}
+
+// The blocks that came, where these were announced. Their rules are judged with the consist that they follow.
+pub fn blocks_taken(ahead: Part, b: &[u8]) -> Part
+    ensures { λ r. ⌜ r ≡ blocksTaken ahead (now (b .entry)) ⌝ }
+{
+    taken(ahead, b.len(), Verdict::Accepted)
 }
 
 // The profile that came, where this was announced.

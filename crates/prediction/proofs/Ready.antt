@@ -38,6 +38,7 @@ module _ (c : Consist) (k : Brake) (m : Sample) (p : List ℕ) where
   under curve braking h = record {
     limited = record { lightest = omega arith; heaviest = omega arith; axles = omega arith };
     rated = omega arith;
+    blocks = h .consist .blocks;
     curve = braking;
     track = h .track;
     head = h .head;

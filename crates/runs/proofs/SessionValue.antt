@@ -1,25 +1,32 @@
 -- What a session's value and an answer's are to the machine: had by those that fit their words, and read back. Assumes nothing.
 use mathlib.Core.Path.{_≡_, refl, sym, _∙_, ap, ap₂, subst}
 use mathlib.Core.Bool.{Bool, true, false}
-use mathlib.Core.List.{List, [], _∷_}
+use mathlib.Core.List.{List, [], _∷_, map}
 use Prim.Native.Nat.{ℕ, zero, suc, _<_, _^_}
 use lib.Dec.{lit<}
-use lib.ListN.{getD}
+use lib.ListN.{length, getD}
 use mir.Syntax.{Width, w8, w16, w32}
-use mir.Val.{Val, bits, vunit, vbool, vint, vfloat, vptr, vstruct, asInt, asBool}
+use mir.Val.{Val, Vals, vnil, vcons, ofList, bits, vunit, vbool, vint, vfloat, vptr, vstruct, asInt, asBool}
 use mir.Fields.{getV}
 use denote.Plain.{UInt, Boolean}
+use denote.Array.{Array, each, arrayVal}
+use denote.Shadow.{shadow}
 use denote.Laws.{Is}
 use denote.Struct.Laws.{owes, owed}
 use denote.Enum.Laws as enum
 use Rattle.bits.specs.Fields.{bit}
 use Rattle.refusal.specs.declared.Refusal.{Refusal}
-use Rattle.refusal.specs.declared.Refusal.the-variants.{NoSession, WrongLength, WrongMark, OutOfRange, TooLight, BrokenProfile, BrokenTargets, BadReading, WrongTime, NotCovered, NoRoom}
+use Rattle.refusal.specs.declared.Refusal.the-variants.{NoSession, WrongLength, WrongMark, OutOfRange, TooLight, BrokenProfile, BrokenTargets, BadReading, WrongTime, NotCovered, NoRoom, BrokenBlocks}
 use Rattle.refusal.specs.declared.Verdict.{Verdict}
 use Rattle.refusal.specs.declared.Verdict.the-variants.{Accepted, Refused}
 use Rattle.refusal.specs.Number.{numberOf, numberOfVerdict}
 use Rattle.refusal.proofs.Refusal.Laws as refusal-value
 use Rattle.refusal.proofs.Verdict.Laws as verdict-value
+use Rattle.blocks.specs.declared.Blocks.{Blocks}
+use Rattle.blocks.specs.Blocks.{most}
+use Rattle.blocks.proofs.Blocks as blocks-type
+use Rattle.blocks.proofs.Blocks.Laws as blocks-value
+use Rattle.consist.specs.declared.Consist.{Consist}
 use Rattle.consist.proofs.Consist as consist-type
 use Rattle.consist.proofs.Consist.Laws as consist-value
 use Rattle.brake.specs.declared.State.{State}
@@ -36,7 +43,7 @@ use Rattle.session.proofs.Session as session-type
 use Rattle.session.proofs.Session.Laws as session-value
 use Rattle.session.proofs.Answer.Laws as answer-value
 use Rattle.demands.specs.Demand1.{tableNumbers}
-use Rattle.demands.specs.Program.{FitsWords}
+use Rattle.demands.specs.Program.{Words, FitsBlocks, FitsWords}
 
 -- ---- a session that fits its words has a value, and no other
 state-is : (s : State) → Is state-type.the-row s (enum.vals state-type.the-type state-value.the-laws s)
@@ -61,11 +68,45 @@ bool b = refl
 abbrev end : Unit {0}
 end = tt
 
+-- an array in a struct is told number by number, each as it is
+abbrev each-as-is : List ℕ → List ℕ
+each-as-is ns = map (λ (n : ℕ). n) ns
+
+as-is : (ns : List ℕ) → each-as-is ns ≡ ns
+as-is [] = refl
+as-is (n ∷ ns) = ap (λ (ms : List ℕ). n ∷ ms) (as-is ns)
+
+-- an array's value is that of its numbers, place by place
+abbrev numbers : List ℕ → List Val
+numbers ns = map (λ (n : ℕ). vint w16 n) ns
+
+elements-are : (ns : List ℕ) → Words 16 ns → shadow (each ℕ (UInt w16 .own) ns (numbers ns))
+elements-are [] f = tt
+elements-are (n ∷ ns) f = (uint w16 (f .0), elements-are ns (f .1))
+
+array-is : (k : ℕ) (ns : List ℕ) → length ns ≡ k → Words 16 ns → Is (Array (UInt w16) k) (each-as-is ns) (arrayVal (numbers (each-as-is ns)) ∷ [])
+array-is k ns l f =
+    let ms = each-as-is ns in
+    (numbers ms, ((refl, ap length (as-is ns) ∙ l), elements-are ms (subst (Words 16) (sym (as-is ns)) f)))
+
+elements-fit : (ns : List ℕ) (us : List Val) → shadow (each ℕ (UInt w16 .own) ns us) → Words 16 ns
+elements-fit [] us s = tt
+elements-fit (n ∷ ns) [] s = absurd s
+elements-fit (n ∷ ns) (u ∷ us) s = (s .0 .1, elements-fit ns us (s .1))
+
+array-fits : (k : ℕ) (ns : List ℕ) (vs : List Val) → Is (Array (UInt w16) k) (each-as-is ns) vs → (length ns ≡ k) × Words 16 ns
+array-fits k ns vs is =
+    (sym (ap length (as-is ns)) ∙ is .1 .0 .1, subst (Words 16) (as-is ns) (elements-fit (each-as-is ns) (is .0) (is .1 .1)))
+
 pub session-is : (x : Session) → FitsWords x → Is session-type.the-row x (session-value.lowered x ∷ [])
 session-is x f =
     let (c₀, (c₁, (c₂, (c₃, (c₄, (c₅, (c₆, (c₇, (c₈, _))))))))) = f .0 in
+    let b = x .consist .blocks in
+    let g = f .4 in
+    let blocks = owes blocks-type.the-type blocks-value.the-laws b
+    (uint w8 (g .count) ⨾ array-is most (b .lengths) (g .lengths-places) (g .lengths) ⨾ array-is most (b .weights) (g .weights-places) (g .weights) ⨾ end) in
     let (_, (k₁, (k₂, (k₃, (k₄, (k₅, (k₆, (k₇, (k₈, _))))))))) = f .1 in
-    let consist = uint w16 c₀ ⨾ uint w16 c₁ ⨾ uint w16 c₂ ⨾ uint w16 c₃ ⨾ uint w32 c₄ ⨾ uint w32 c₅ ⨾ uint w16 c₆ ⨾ uint w16 c₇ ⨾ uint w16 c₈ ⨾ end in
+    let consist = uint w16 c₀ ⨾ uint w16 c₁ ⨾ uint w16 c₂ ⨾ uint w16 c₃ ⨾ uint w32 c₄ ⨾ uint w32 c₅ ⨾ uint w16 c₆ ⨾ uint w16 c₇ ⨾ uint w16 c₈ ⨾ blocks ⨾ end in
     let brake = uint w16 k₁ ⨾ uint w16 k₂ ⨾ uint w16 k₃ ⨾ uint w16 k₄ ⨾ uint w16 k₅ ⨾ uint w16 k₆ ⨾ uint w16 k₇ ⨾ uint w32 k₈ ⨾ bool (x .brake .sampled) ⨾ end in
     let fields = bool (x .opened) ⨾ owes consist-type.the-type consist-value.the-laws (x .consist) consist
     ⨾ owes brake-type.the-type brake-value.the-laws (x .brake) (state-is (x .brake .state), brake) ⨾ uint w8 (f .2) ⨾ uint w8 (f .3) ⨾ end in
@@ -87,12 +128,20 @@ bit-fits true = lit< tt
 pub session-fits : (x : Session) (v : Val) → Is session-type.the-row x (v ∷ []) → FitsWords x
 session-fits x v is =
     let (_, (consist, (brake, (cause, (emergency, _))))) = owed session-type.the-type session-value.the-laws x (v ∷ []) is in
-    let (c₀, (c₁, (c₂, (c₃, (c₄, (c₅, (c₆, (c₇, (c₈, _))))))))) = owed consist-type.the-type consist-value.the-laws (x .consist) _ consist in
+    let (c₀, (c₁, (c₂, (c₃, (c₄, (c₅, (c₆, (c₇, (c₈, (blocks, _)))))))))) = owed consist-type.the-type consist-value.the-laws (x .consist) _ consist in
+    let (n, (lengths, (weights, _))) = owed blocks-type.the-type blocks-value.the-laws (x .consist .blocks) _ blocks in
     let (_, (k₁, (k₂, (k₃, (k₄, (k₅, (k₆, (k₇, (k₈, _))))))))) = owed brake-type.the-type brake-value.the-laws (x .brake) _ brake in (
       c₀ .1 ⨾ c₁ .1 ⨾ c₂ .1 ⨾ c₃ .1 ⨾ c₄ .1 ⨾ c₅ .1 ⨾ c₆ .1 ⨾ c₇ .1 ⨾ c₈ .1 ⨾ tt,
       state-fits (x .brake .state) ⨾ k₁ .1 ⨾ k₂ .1 ⨾ k₃ .1 ⨾ k₄ .1 ⨾ k₅ .1 ⨾ k₆ .1 ⨾ k₇ .1 ⨾ k₈ .1 ⨾ bit-fits (x .brake .sampled) ⨾ tt,
       cause .1,
       emergency .1,
+      record {
+        count = n .1;
+        lengths-places = array-fits most (x .consist .blocks .lengths) _ lengths .0;
+        lengths = array-fits most (x .consist .blocks .lengths) _ lengths .1;
+        weights-places = array-fits most (x .consist .blocks .weights) _ weights .0;
+        weights = array-fits most (x .consist .blocks .weights) _ weights .1;
+      },
     )
 
 -- ---- read back
@@ -106,6 +155,24 @@ part (vint w n) i = vunit
 part (vfloat f x) i = vunit
 part (vptr b o) i = vunit
 part (vstruct vs) i = getV vs i
+
+-- the numbers of an array's value
+numbersIn : Vals → List ℕ
+numbersIn vnil = []
+numbersIn (vcons v vs) = number v ∷ numbersIn vs
+
+arrayIn : Val → List ℕ
+arrayIn vunit = []
+arrayIn (vbool b) = []
+arrayIn (vint w n) = []
+arrayIn (vfloat f x) = []
+arrayIn (vptr b o) = []
+arrayIn (vstruct vs) = numbersIn vs
+
+array-read : (ns : List ℕ) → arrayIn (arrayVal (numbers ns)) ≡ ns
+unfolding number numbersIn arrayIn
+array-read [] = refl
+array-read (n ∷ ns) = ap (λ (ms : List ℕ). n ∷ ms) (array-read ns)
 
 truth : Val → Bool
 truth v = asBool false v (λ b. b)
@@ -124,20 +191,53 @@ verdictIn v = verdictOf (number (part v 0)) (numberAt (number (part (part v 1) 0
 pub sessionIn : Val → Told
 sessionIn v =
     let c : ℕ → ℕ = λ i. number (part (part v 1) i) in
+    let b : Val = part (part v 1) 9 in
     let k : ℕ → ℕ = λ i. number (part (part v 2) i) in (
       truth (part v 0),
-      record { cars = c 0; axles = c 1; weight = c 2; length = c 3; rated = c 4; application = c 5; recharge = c 6; set = c 7; offset = c 8 },
+      record {
+        cars = c 0;
+        axles = c 1;
+        weight = c 2;
+        length = c 3;
+        rated = c 4;
+        application = c 5;
+        recharge = c 6;
+        set = c 7;
+        offset = c 8;
+        blocks = record { count = number (part b 0); lengths = arrayIn (part b 1); weights = arrayIn (part b 2) };
+      },
       number (part (part (part v 2) 0) 0) ∷ k 1 ∷ k 2 ∷ k 3 ∷ k 4 ∷ k 5 ∷ k 6 ∷ k 7 ∷ k 8 ∷ bit (truth (part (part v 2) 9)) ∷ [],
       number (part v 3),
       number (part v 4),
     )
 
+-- a consist with other blocks, as many
+abbrev carrying : Consist → (lengths weights : List ℕ) → Consist
+carrying c lengths weights = record {
+  cars = c .cars;
+  axles = c .axles;
+  weight = c .weight;
+  length = c .length;
+  rated = c .rated;
+  application = c .application;
+  recharge = c .recharge;
+  set = c .set;
+  offset = c .offset;
+  blocks = record { count = c .blocks .count; lengths = lengths; weights = weights };
+}
+
 pub session-read : (x : Session) → sessionIn (session-value.lowered x) ≡ sessionTold x
 unfolding part number truth sessionIn
 session-read x =
     let k = x .brake in
-    ap (λ (n : ℕ). (x .opened, x .consist, n ∷ k .hold ∷ k .a ∷ k .b ∷ k .equalization ∷ k .fall ∷ k .«last_front» ∷ k .«last_rear» ∷ k .«last_time» ∷ bit (k .sampled) ∷ [], x .cause, x .emergency))
-    (state-read (k .state))
+    let told : ℕ → List ℕ → List ℕ → Told = λ n ls ws. (
+      x .opened,
+      carrying (x .consist) ls ws,
+      n ∷ k .hold ∷ k .a ∷ k .b ∷ k .equalization ∷ k .fall ∷ k .«last_front» ∷ k .«last_rear» ∷ k .«last_time» ∷ bit (k .sampled) ∷ [],
+      x .cause,
+      x .emergency,
+    ) in
+    (λ i. told (state-read (k .state) i) (array-read (x .consist .blocks .lengths) i) (array-read (x .consist .blocks .weights) i))
   where
     state-read : (s : State) → number (part (state-value.lowered s) 0) ≡ stateNumber s
     state-read Charged = refl
@@ -164,6 +264,7 @@ verdict-read (Refused r) = refusal-read r
     refusal-read WrongTime = refl
     refusal-read NotCovered = refl
     refusal-read NoRoom = refl
+    refusal-read BrokenBlocks = refl
 
 answerIn : Val → ℕ × Told
 answerIn v = (verdictIn (part v 1), sessionIn (part v 0))

@@ -55,16 +55,16 @@ module _ (x : Session) where
       rw (o, c, brake-tested.sound-is (x .consist) (x .brake) .1 b, le-leb (x .cause) targets.most k, le-leb (x .emergency) targets.most e, behind, f)
 
 -- an opening with a consist that is not refused
-opened-open : (c : Consist) → consist.outOfRange c ≡ false → consist.tooLight c ≡ false → isOpen (openedWith c) ≡ true
-opened-open c r w =
-    is-open (openedWith c) refl (consist-sound.sound-is c r w) (at-opening-sound c (consist-sound.sound c r w)) (omega arith) (omega arith) refl
+opened-open : (c : Consist) → consist.outOfRange c ≡ false → consist.tooLight c ≡ false → consist.soundBlocks c ≡ true → isOpen (openedWith c) ≡ true
+opened-open c r w b =
+    is-open (openedWith c) refl (consist-sound.sound-is c r w b) (at-opening-sound c (consist-sound.sound c r w b)) (omega arith) (omega arith) refl
     (rw (brake-tested.at-opening-passes c))
 
 pub opens-open : OpensOpen
 unfolding OpensOpen openOf readConsist
 opens-open x s h =
-    let (_, (range, (light, _))) = none-holds (consist.readRules s) h in
-    ap (λ (v : Verdict). isOpen (kept v (openedWith (kept v (consistIn s) none)) x)) h ∙ opened-open (consistIn s) range light
+    let (_, (range, (light, (broken, _)))) = none-holds (consist.readRules s) h in
+    ap (λ (v : Verdict). isOpen (kept v (openedWith (kept v (consistIn s) none)) x)) h ∙ opened-open (consistIn s) range light (consist-sound.behind-sound s broken)
 
 -- an update has taken a sample
 sampled : (x : Session) (m : Sample) → brakeAfter x m .sampled ≡ true

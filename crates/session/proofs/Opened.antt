@@ -62,7 +62,7 @@ opened x h =
     record {
       opened = opened;
       tested = tested;
-      consist = consist-sound.sound c (facts .0) (facts .1);
+      consist = consist-sound.sound c (facts .0) (facts .1) (facts .2);
       brake = brake-tested.sound-is c k .0 sound;
       cause = leb-true (x .cause) targets.most cause;
       emergency = leb-true (x .emergency) targets.most emergency;

@@ -1,4 +1,4 @@
--- Opening: "Opening uses 2, 4 and 5; if refused, an earlier session stays as it was." Definitions only.
+-- Opening: "Opening uses 2, 4 and 5; if refused, an earlier session stays as it was." Document 02's R-1 adds 13. Definitions only.
 use mathlib.Core.Bool.{true}
 use mathlib.Core.List.{List}
 use Prim.Native.Nat.{ℕ}

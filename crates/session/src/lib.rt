@@ -1,4 +1,5 @@
 // A session: what is held from call to call, and its opening.
+use blocks::Blocks;
 use brake::Brake;
 use consist::Consist;
 use refusal::Verdict;
@@ -29,6 +30,7 @@ pub struct Answer {
 pub fn none() -> Session
     ensures { λ r. ⌜ sessionTold r ≡ sessionTold noneOpen ⌝ }
 {
+    let blocks = Blocks::none();
     let consist = Consist {
         cars: 0,
         axles: 0,
@@ -39,6 +41,7 @@ pub fn none() -> Session
         recharge: 0,
         set: 0,
         offset: 0,
+        blocks,
     };
     let brake = Brake::at_opening(consist);
     Session {

@@ -11,11 +11,13 @@ use Rattle.whole.proofs.Parts.{up, dn, up-mono, add-parts, sub-parts, times-up,
 use Rattle.whole.proofs.Order.{parts-le, le-parts}
 use Rattle.whole.proofs.Size.{abs-parts}
 use Rattle.whole.proofs.Floors.{floor-grows, floor-up, floor-dn}
+use Rattle.blocks.specs.Sound.{Sound}
 use Rattle.consist.specs.declared.Consist.{Consist}
 use Rattle.track.specs.declared.Track.{Track}
-use Rattle.track.specs.Track.{gradeUnder}
-use Rattle.track.specs.Gentle.{Gentle, GentleAverages}
-use Rattle.track.proofs.Gentle.{gentle-averages}
+use Rattle.track.specs.Gentle.{Gentle}
+use Rattle.shares.specs.Shares.{groundUnder}
+use Rattle.shares.specs.Bounds.{GentleGround}
+use Rattle.shares.proofs.Bounds.{gentle-ground}
 use Rattle.step.specs.declared.Run.{Run}
 use Rattle.step.specs.Step.{stepsMost, Ground, groundOf, opposing, loss, stepTime, stepOf}
 use Rattle.step.specs.Range.{squareMost}
@@ -81,11 +83,13 @@ gains-at-most c force ground limited steep = record {
   under = λ r v n e h l. under-bound v n _ h l (omega (arith, e, gains-after c force ground limited steep r n));
 }
 
--- the track of an accepted profile
-pub gentle-no-steeper : (t : Track) (length : ℕ) → Gentle t → NoSteeper (groundOf t length)
-unfolding GentleAverages
-gentle-no-steeper t length gentle = record {
-  grade = λ h. parts-le _ _ (omega (arith, gentle-averages t h length gentle .grade, abs-parts (gradeUnder t h length)));
+-- the track of an accepted profile, under a consist whose blocks are right
+pub gentle-no-steeper : (t : Track) (c : Consist) → Gentle t → Sound (c .blocks) (c .length) (c .weight) → NoSteeper (groundOf t c)
+unfolding GentleGround
+gentle-no-steeper t c gentle sound = record {
+  grade = λ h.
+      let g = groundUnder t h (c .length) (c .weight) (c .blocks) .grade in
+      parts-le _ g (omega (arith, gentle-ground t h (c .length) (c .weight) (c .blocks) gentle sound .grade, abs-parts g));
 }
 
 pub reached : Reached

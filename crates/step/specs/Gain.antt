@@ -4,6 +4,7 @@ use mathlib.Core.Path.{_≡_}
 use Prim.Native.Nat.{ℕ, zero, suc, _+_, _*_, _≤_}
 use lib.IntN.{negsuc}
 use lib.Signed.{_≤ℤ_}
+use Rattle.blocks.specs.Blocks.{none}
 use Rattle.consist.specs.declared.Consist.{Consist}
 use Rattle.track.specs.declared.Under.{Under}
 use Rattle.step.specs.declared.Run.{Run}
@@ -55,6 +56,7 @@ heaviestTrain = record {
   recharge = 1;
   set = 7000;
   offset = 0;
+  blocks = none;
 }
 
 abbrev pub steepestGround : Under

@@ -2,9 +2,9 @@
 use Prim.Native.Nat.{ℕ, _+_, _*_, _≤_, _<_}
 use lib.IntN.{natAbs}
 use Rattle.record.specs.Location.{farthest}
-use Rattle.consist.specs.declared.Consist.{Consist}
 use Rattle.track.specs.declared.Under.{Under}
 use Rattle.step.specs.declared.Curve.{Curve}
+use Rattle.step.specs.declared.Load.{Load}
 use Rattle.step.specs.declared.Run.{Run}
 use Rattle.step.specs.Step.{stepsMost}
 
@@ -42,8 +42,8 @@ pub record Opposed (f s q : ℕ) (u : Under) : Type 0 where
   pub curvature : u .curvature ≤ 512000
 
 -- a run that has a step to make
-pub record Moving (c : Consist) (k : Curve) (u : Under) (r : Run) : Type 0 where
-  pub rated : c .rated ≤ 10000000
+pub record Moving (l : Load) (k : Curve) (u : Under) (r : Run) : Type 0 where
+  pub rated : l .rated ≤ 10000000
   pub applied : Applied k (r .clock)
   pub grade : natAbs (u .grade) ≤ 128000
   pub curvature : u .curvature ≤ 512000

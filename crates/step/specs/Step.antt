@@ -3,10 +3,13 @@ use Prim.Native.Nat.{ℕ, _+_, _*_, _/_}
 use lib.IntN.{ℤ, pos, _+ℤ_, _-ℤ_, _*ℤ_}
 use Rattle.whole.specs.Floor.{floorDiv, cut}
 use Rattle.whole.specs.Root.{rootOf}
+use Rattle.blocks.specs.declared.Blocks.{Blocks}
+use Rattle.blocks.specs.Blocks.{none}
 use Rattle.consist.specs.declared.Consist.{Consist}
 use Rattle.track.specs.declared.Track.{Track}
 use Rattle.track.specs.declared.Under.{Under}
-use Rattle.track.specs.Track.{gradeUnder, curvatureUnder}
+use Rattle.shares.specs.Shares.{groundUnder}
+use Rattle.step.specs.declared.Load.{Load}
 use Rattle.step.specs.declared.Run.{Run}
 
 -- "Steps of 16 ft, at most 2,048"
@@ -18,9 +21,15 @@ pub record Ground : Type 0 where
   pub grade : ℕ → ℤ
   pub curvature : ℕ → ℕ
 
--- under a train of this length
-abbrev pub groundOf : Track → ℕ → Ground
-groundOf t length = record { grade = λ h. gradeUnder t h length; curvature = λ h. curvatureUnder t h length }
+-- under a train with this length, weight and blocks
+abbrev pub groundFor : Track → (length weight : ℕ) → Blocks → Ground
+groundFor t length weight b = record {
+  grade = λ h. groundUnder t h length weight b .grade;
+  curvature = λ h. groundUnder t h length weight b .curvature;
+}
+
+abbrev pub groundOf : Track → Consist → Ground
+groundOf t c = groundFor t (c .length) (c .weight) (c .blocks)
 
 -- these averages wherever the head is
 abbrev pub even : Under → Ground
@@ -48,4 +57,24 @@ stepOf c force ground r = record {
   head = r .head + 16;
   clock = r .clock + stepTime (rootOf (r .q));
   q = cut (pos (r .q) -ℤ loss c (force (r .clock)) (rootOf (r .q)) (r .q) (ground .grade (r .head)) (ground .curvature (r .head)));
+}
+
+-- ---- what a step reads of a consist
+
+abbrev pub loadOf : Consist → Load
+loadOf c = record { cars = c .cars; axles = c .axles; weight = c .weight; rated = c .rated }
+
+-- a consist with this load, and nothing else
+abbrev pub carrying : Load → Consist
+carrying l = record {
+  cars = l .cars;
+  axles = l .axles;
+  weight = l .weight;
+  length = 0;
+  rated = l .rated;
+  application = 0;
+  recharge = 0;
+  set = 0;
+  offset = 0;
+  blocks = none;
 }

@@ -6,7 +6,7 @@ ghost use mathlib.Core.Path.{_≡_};
 ghost use lib.IntN.{pos, _-ℤ_};
 ghost use Rattle.whole.specs.Floor.{cut};
 ghost use Rattle.step.specs.Curve.{forceAt, penaltyCurve, emergencyCurve};
-ghost use Rattle.step.specs.Step.{opposing, loss, stepOf, even};
+ghost use Rattle.step.specs.Step.{carrying, opposing, loss, stepOf, even};
 ghost use Rattle.step.specs.Range.{Applied, Opposed, Moving};
 
 // What the cylinder pressure does as the clock runs: base + gain × min(slope × t / per, most) / 2.
@@ -16,6 +16,16 @@ pub struct Curve {
     pub slope: u64,
     pub per: u64,
     pub most: u64,
+}
+
+// What a step reads of a consist.
+pub struct Load {
+    pub cars: u16,
+    pub axles: u16,
+    // whole tons
+    pub weight: u16,
+    // rated brake force, lb
+    pub rated: u32,
 }
 
 // The moving part of a walk: head location, clock in ms, squared speed.
@@ -66,48 +76,51 @@ impl Curve {
 }
 
 // In millionths of a lb, at s and q, over the ground u.
-fn opposing_force(c: Consist, f: u64, s: u64, q: u64, u: Under) -> i64
+fn opposing_force(load: Load, f: u64, s: u64, q: u64, u: Under) -> i64
     requires { ⌜ Opposed f s q u ⌝ }
-    ensures { λ r. ⌜ r ≡ opposing c f s q (u .grade) (u .curvature) ⌝ }
+    ensures { λ r. ⌜ r ≡ opposing (carrying load) f s q (u .grade) (u .curvature) ⌝ }
 {
-    let w = c.weight as u64;
+    let w = load.weight as u64;
     let drag = 1_000_000 * f
         + 600_000 * w
-        + 20_000_000 * c.axles as u64
+        + 20_000_000 * load.axles as u64
         + 100 * (w * s)
-        + 7 * (c.cars as u64 * q);
+        + 7 * (load.cars as u64 * q);
     let pull = (2_000 * w) as i64 * u.grade;
     let bend = 8_000 * (w * u.curvature);
     drag as i64 + pull + bend as i64
 }
 
 // What q loses in a step; below zero it gains.
-fn lost(c: Consist, f: u64, s: u64, q: u64, u: Under) -> i64
+fn lost(load: Load, f: u64, s: u64, q: u64, u: Under) -> i64
     requires { ⌜ Opposed f s q u ⌝ }
-    ensures { λ r. ⌜ r ≡ loss c f s q (u .grade) (u .curvature) ⌝ }
+    ensures { λ r. ⌜ r ≡ loss (carrying load) f s q (u .grade) (u .curvature) ⌝ }
 {
-    let w = c.weight as u64;
-    whole::floor_div(1_449 * opposing_force(c, f, s, q, u), (605_000 * w) as i64)
+    let w = load.weight as u64;
+    whole::floor_div(
+        1_449 * opposing_force(load, f, s, q, u),
+        (605_000 * w) as i64,
+    )
 }
 
 // q after a step; below zero counts as zero.
-fn slowed(c: Consist, f: u64, s: u64, q: u64, u: Under) -> u64
+fn slowed(load: Load, f: u64, s: u64, q: u64, u: Under) -> u64
     requires { ⌜ Opposed f s q u ⌝ }
-    ensures { λ r. ⌜ r ≡ cut (pos q -ℤ loss c f s q (u .grade) (u .curvature)) ⌝ }
+    ensures { λ r. ⌜ r ≡ cut (pos q -ℤ loss (carrying load) f s q (u .grade) (u .curvature)) ⌝ }
 {
-    let rest = q as i64 - lost(c, f, s, q, u);
+    let rest = q as i64 - lost(load, f, s, q, u);
     if rest <= 0 { 0 } else { rest as u64 }
 }
 
 impl Run {
     // After a step over the ground that is under the train at its start.
-    pub fn stepped(self, c: Consist, curve: Curve, u: Under) -> Run
-        requires { ⌜ Moving c curve u self ⌝ }
-        ensures { λ r. ⌜ r ≡ stepOf c (forceAt (c .rated) curve) (even u) self ⌝ }
+    pub fn stepped(self, load: Load, curve: Curve, u: Under) -> Run
+        requires { ⌜ Moving load curve u self ⌝ }
+        ensures { λ r. ⌜ r ≡ stepOf (carrying load) (forceAt (load .rated) curve) (even u) self ⌝ }
     {
         let s = whole::isqrt(self.q);
-        let f = curve.force(c.rated, self.clock);
-        let q = slowed(c, f, s, self.q, u);
+        let f = curve.force(load.rated, self.clock);
+        let q = slowed(load, f, s, self.q, u);
         let head = self.head + 16;
         let clock = self.clock + 12_000_000 / (11 * s);
         Run { head, clock, q }

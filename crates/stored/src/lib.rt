@@ -1,5 +1,7 @@
 // The writer of an open session's record, which crate `held` defines and reads.
+use blocks::Blocks;
 use held::BODY;
+use held::LETTER;
 use held::MARK;
 use held::OWN;
 use held::SIZE;
@@ -13,20 +15,42 @@ ghost use mathlib.Core.List.{_++_};
 ghost use Prim.Native.Nat.{_≤_};
 ghost use lib.ListN.{length, take, drop};
 ghost use Rattle.bits.specs.Places.{putFrom};
+ghost use Rattle.blocks.specs.Blocks as blocks;
 ghost use Rattle.refusal.specs.Number.{told};
 ghost use Rattle.session.specs.Session.{isOpen};
-ghost use Rattle.held.specs.Held.{size, widths, fieldsOf, bytesOf, writeSession};
+ghost use Rattle.held.specs.Held.{size, markFor, behindFor, sizeFor, sizeOf, widths, fieldsOf, frontOf, behindOf, bytesOf, writeSession};
 
-// The first five fields, to the state. The record is put in three parts, each short enough to be put without a loop.
-fn put_front(x: Session, out: &mut [u8])
+// The mark of a record with so many blocks.
+fn mark_for(count: u8) -> u64
+    ensures { λ r. ⌜ r ≡ markFor count ⌝ }
+{
+    if count == 0 {
+        return MARK;
+    }
+    LETTER + count as u64
+}
+
+// Bytes of the record with so many.
+fn size_for(count: u8) -> usize
+    ensures { λ r. ⌜ r ≡ sizeFor count ⌝ }
+{
+    if count == 0 {
+        return SIZE;
+    }
+    SIZE + Blocks::SIZE * count as usize + seal::SIZE
+}
+
+// The first five fields, to the state. The fields are put in three parts, each short enough to be put without a loop.
+fn put_first(x: Session, out: &mut [u8])
     ensures { λ _. ⌜ now (out .exit) ≡ putFrom 0 (take 5 widths) (take 5 (fieldsOf x)) (now (out .entry)) ⌝ }
 {
     let k = x.brake;
     let state = k.state;
     let number = brake::state_number(state);
+    let mark = mark_for(x.consist.blocks.count);
     let widths = [16, 4, 4, 1, 7];
     let values = [
-        MARK,
+        mark,
         x.cause as u64,
         x.emergency as u64,
         k.sampled as u64,
@@ -60,29 +84,55 @@ fn put_back(x: Session, out: &mut [u8])
     bits::put_fields(out, 96, &widths, &values);
 }
 
-// Puts the record over the first 41 bytes of `out`.
-fn put(x: Session, out: &mut [u8])
+// Puts the front over the first 41 bytes of `out`.
+fn put_front(x: Session, out: &mut [u8])
     requires opened { ⌜ isOpen x ≡ true ⌝ }
     requires room { ⌜ size ≤ length (now out) ⌝ }
-    ensures { λ _. ⌜ now (out .exit) ≡ bytesOf x ++ drop size (now (out .entry)) ⌝ }
+    ensures { λ _. ⌜ now (out .exit) ≡ frontOf x ++ drop size (now (out .entry)) ⌝ }
 {
     let c = x.consist;
-    put_front(x, out);
+    put_first(x, out);
     put_pressures(x, out);
     put_back(x, out);
     // not refused: an open session's consist is sound
-    consist::write(c, &mut out[OWN..BODY]);
+    consist::write(c.alone(), &mut out[OWN..BODY]);
     seal::put_check_word(&mut out[0..SIZE]);
 }
 
-// Writes the record to the first 41 bytes of `out`.
+// Puts blocks, where there are any, and their check word over `out`.
+fn put_behind(b: Blocks, out: &mut [u8])
+    requires few { ⌜ b .count ≤ blocks.most ⌝ }
+    requires room { ⌜ behindFor (b .count) ≡ length (now out) ⌝ }
+    ensures { λ _. ⌜ now (out .exit) ≡ behindOf (b .count) (blocks.bytesOf b) ⌝ }
+{
+    if b.count == 0 {
+        return;
+    }
+    blocks::put(b, out);
+    seal::put_check_word(out);
+}
+
+// Puts the record over the first bytes of `out`.
+fn put(x: Session, out: &mut [u8])
+    requires opened { ⌜ isOpen x ≡ true ⌝ }
+    requires room { ⌜ sizeOf x ≤ length (now out) ⌝ }
+    ensures { λ _. ⌜ now (out .exit) ≡ bytesOf x ++ drop (sizeOf x) (now (out .entry)) ⌝ }
+{
+    let b = x.consist.blocks;
+    let end = size_for(b.count);
+    put_front(x, out);
+    put_behind(b, &mut out[SIZE..end]);
+}
+
+// Writes the record to the first bytes of `out`.
 pub fn write(x: Session, out: &mut [u8]) -> Verdict
     ensures { λ r. ⌜ told (r, now (out .exit)) ≡ told (writeSession x (now (out .entry))) ⌝ }
 {
     let Step::On = refusal::unless(!session::is_open(x)) else {
         return Verdict::Refused(Refusal::NoSession);
     };
-    let Step::On = refusal::unless(out.len() < SIZE) else {
+    let size = size_for(x.consist.blocks.count);
+    let Step::On = refusal::unless(out.len() < size) else {
         return Verdict::Refused(Refusal::NoRoom);
     };
     put(x, out);

@@ -21,7 +21,7 @@ use Rattle.table.specs.Table.{every, Table, counted, rises, good, closed
 
 -- ---- of every number below n
 
-every-at : (n k : ℕ) (f : ℕ → Bool) → k < n → every n f ≡ true → f k ≡ true
+pub every-at : (n k : ℕ) (f : ℕ → Bool) → k < n → every n f ≡ true → f k ≡ true
 every-at zero k f h e = absurd (not-suc-le-zero h)
 every-at (suc n) k f h e = by (ℕ-discrete k n) (λ l. every-at n k f l (and-true-left (every n f) (f n) e))
   where
@@ -29,7 +29,7 @@ every-at (suc n) k f h e = by (ℕ-discrete k n) (λ l. every-at n k f l (and-tr
     by (yes p) r = ap f p ∙ and-true-right (every n f) (f n) e
     by (no p) r = r (omega arith)
 
-every-same : (n : ℕ) (f g : ℕ → Bool) → ((k : ℕ) → k < n → f k ≡ g k) → every n f ≡ every n g
+pub every-same : (n : ℕ) (f g : ℕ → Bool) → ((k : ℕ) → k < n → f k ≡ g k) → every n f ≡ every n g
 every-same zero f g h = refl
 every-same (suc n) f g h = ap₂ _&&_ (every-same n f g (λ k l. h k (omega arith))) (h n (omega arith))
 

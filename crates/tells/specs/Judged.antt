@@ -13,7 +13,8 @@ use Rattle.sample.specs.Sample as sample
 use Rattle.decision.specs.declared.Decision.{Decision}
 use Rattle.decision.specs.Decision as decision
 
--- 2, 4 and 5: "a consist is not 16 bytes", "a consist or decision field out of its range", "weight under 10 tons a car"
+-- 2, 4, 5 and 13: "a consist under 16 bytes" (02, R-1), "a consist or decision field out of its range", "weight under 10 tons a car",
+-- "blocks that break these rules, their byte count included"
 unfoldable pub consistJudged : List ℕ → ℕ
 consistJudged s = numberOfVerdict (lowest (consist.readRules s))
 

@@ -25,17 +25,24 @@ module _ (t : Track) (gentle : Gentle t) (rear head : ℕ) where
   curvature-feet-most zero = omega arith
   curvature-feet-most (suc n) = omega (arith, mul-le-mul-left (feet t rear head n) (gentle .curvature n), curvature-feet-most n)
 
-module _ (t : Track) (head length : ℕ) (gentle : Gentle t) where
-  feet-most : feetUnder t (head - length) head (segments t) ≤ length
+-- from a rear at or behind the head
+module _ (t : Track) (gentle : Gentle t) (rear head : ℕ) (h : rear ≤ head) where
+  feet-most : feetUnder t rear head (segments t) ≤ head - rear
   unfolding FeetClamped
-  feet-most = omega (arith, feet-clamped t (head - length) head (gentle .rising) (omega arith) .at-most (segments t) (le-refl _))
+  feet-most = feet-clamped t rear head (gentle .rising) h .at-most (segments t) (le-refl _)
+
+  pub grade-sum-most : natAbs (gradeFeet t rear head (segments t)) ≤ 500 * (head - rear)
+  grade-sum-most = omega (arith, grade-feet-most t gentle rear head (segments t), feet-most)
+
+  pub curvature-sum-most : curvatureFeet t rear head (segments t) ≤ 2000 * (head - rear)
+  curvature-sum-most = omega (arith, curvature-feet-most t gentle rear head (segments t), feet-most)
 
 pub gentle-averages : GentleAverages
 unfolding GentleAverages gradeUnder curvatureUnder
-gentle-averages t head length gentle = record {
-  grade =
-      let z = gradeFeet t (head - length) head (segments t) in
-      floor-most _ length 50000
-      (omega (arith, abs-times 100 z, grade-feet-most t gentle (head - length) head (segments t), feet-most t head length gentle));
-  curvature = div-le-of-le-mul length (omega (arith, curvature-feet-most t gentle (head - length) head (segments t), feet-most t head length gentle));
-}
+gentle-averages t head length gentle =
+    let rear = head - length in
+    let h : rear ≤ head = omega arith in
+    record {
+      grade = floor-most _ length 50000 (omega (arith, abs-times 100 (gradeFeet t rear head (segments t)), grade-sum-most t gentle rear head h));
+      curvature = div-le-of-le-mul length (omega (arith, curvature-sum-most t gentle rear head h));
+    }

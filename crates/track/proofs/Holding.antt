@@ -64,7 +64,7 @@ module _ (starts : List ℕ) (x : ℕ) where
 
   module _ (last : ℕ) (rises : Rises starts last) (k : ℕ) (h : x < getD starts (k + 1) 0) where
     -- where the next starts past x, so do all after it
-    past : (m : ℕ) → k < m → m ≤ last → x < getD starts m 0
+    pub past : (m : ℕ) → k < m → m ≤ last → x < getD starts m 0
     past zero l u = absurd (omega arith)
     past (suc m) l u = by (ℕ-discrete k m) (past m)
       where

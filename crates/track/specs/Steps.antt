@@ -1,7 +1,7 @@
 -- What the steps on the way to the averages find and ask. Definitions only.
 use mathlib.Core.Path.{_≡_}
 use mathlib.Core.List.{List}
-use Prim.Native.Nat.{ℕ, _+_, _-_, _*_, _/_, _≤_, _<_, _^_}
+use Prim.Native.Nat.{ℕ, _+_, _-_, _*_, _/_, _≤_, _<_, _^_, min}
 use lib.ListN.{getD}
 use lib.IntN.{ℤ, pos, natAbs, _+ℤ_, _-ℤ_, _*ℤ_}
 use Rattle.whole.specs.Floor.{floorDiv}
@@ -9,6 +9,7 @@ use Rattle.profile.specs.Profile.{most}
 use Rattle.track.specs.declared.Track.{Track}
 use Rattle.track.specs.declared.Under.{Under}
 use Rattle.track.specs.declared.Sums.{Sums}
+use Rattle.track.specs.declared.Place.{Place}
 use Rattle.track.specs.declared.Reached.{Reached}
 use Rattle.track.specs.Totals.{gradeTotal, curvatureTotal, holdingTo, holding, gradeTo, curvatureTo}
 
@@ -47,6 +48,10 @@ pub record From (starts : List ℕ) (last x from : ℕ) : Type 0 where
   pub rises : Rises starts last
   pub among : from ≤ last
   pub holds : holdingTo starts x from ≡ from
+
+-- the segment of x, and the feet from its start
+abbrev pub placeOf : (starts : List ℕ) (last x : ℕ) → Place
+placeOf starts last x = record { segment = holdingTo starts x last; feet = min x (getD starts last 0) - getD starts (holdingTo starts x last) 0 }
 
 -- both totals at x, and its segment
 abbrev pub reachedOf : Track → ℕ → Reached

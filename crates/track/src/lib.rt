@@ -1,5 +1,5 @@
 // A profile laid out as a track, its running totals, and the average grade and curvature of the track under a train.
-// `under_train` asks for a gentle track and that track's totals; the others answer for every input.
+// `reached_at` and `under_train` ask for a gentle track and that track's totals; the other public functions answer for every input.
 use profile::Segment;
 ghost use mathlib.Core.Path.{_≡_};
 ghost use Prim.Native.Nat.{_-_, _/_, _≤_, _<_, min};
@@ -10,7 +10,7 @@ ghost use Rattle.profile.specs.Profile.{most};
 ghost use Rattle.track.specs.Track.{layOf};
 ghost use Rattle.track.specs.Gentle.{Gentle};
 ghost use Rattle.track.specs.Totals.{totalsOf, AreTotals, holdingTo, foundOf};
-ghost use Rattle.track.specs.Steps.{trackOf, Sized, Plus, keptIn, Rises, From, reachedOf, Behind, differenceMost, averagesOf};
+ghost use Rattle.track.specs.Steps.{trackOf, Sized, Plus, keptIn, Rises, From, placeOf, reachedOf, Behind, differenceMost, averagesOf};
 
 // A profile laid out: record k at place k of each array.
 pub struct Track {
@@ -40,15 +40,21 @@ pub struct Totals {
 }
 
 // A sum of grade × feet and one of curvature × feet.
-struct Sums {
-    grade: i64,
-    curvature: u64,
+pub struct Sums {
+    pub grade: i64,
+    pub curvature: u64,
+}
+
+// Where a location is: the segment that it is in, and the feet that it is past that segment's start.
+struct Place {
+    segment: usize,
+    feet: u32,
 }
 
 // The totals at a location, and the segment that it is in.
-struct Reached {
-    sums: Sums,
-    segment: usize,
+pub struct Reached {
+    pub sums: Sums,
+    pub segment: usize,
 }
 
 // How many of n records a track holds.
@@ -228,8 +234,30 @@ fn feet_to(start: u32, end: u32, location: u32) -> u32
     feet_between(start, whole::lesser(location as u64, end as u64) as u32)
 }
 
-// The totals at a location, its segment looked for from `near` on.
-fn reached_at<'a>(
+// Where a location is, up to record `last`, at which the profile ends. Most often it still is in segment `near`.
+fn place_of<'a>(starts: &'a [u32; Segment::MOST], last: usize, location: u32, near: usize) -> Place
+    requires { ⌜ Rises (now starts) last ⌝ }
+    ensures { λ r. ⌜ r ≡ placeOf (now (starts .entry)) last location ⌝ }
+{
+    if near < last {
+        let next = near + 1;
+        let start = starts[near];
+        if (start <= location) & (location < starts[next]) {
+            return Place {
+                segment: near,
+                feet: location - start,
+            };
+        }
+    }
+    let k = segment_of(starts, last, location, near);
+    Place {
+        segment: k,
+        feet: feet_to(starts[k], starts[last], location),
+    }
+}
+
+// The totals at a location, by those that `summed` gives of this track; its segment is looked for from `near` on.
+pub fn reached_at<'a>(
     count: usize,
     starts: &'a [u32; Segment::MOST],
     grades: &'a [i16; Segment::MOST],
@@ -244,11 +272,13 @@ fn reached_at<'a>(
     ensures { λ r. ⌜ r ≡ reachedOf (trackOf count (now (starts .entry)) (now (grades .entry)) (now (curvatures .entry))) location ⌝ }
 {
     let last = segments(count);
-    let k = segment_of(starts, last, location, near);
-    let feet = feet_to(starts[k], starts[last], location);
-    let total = Sums::kept(grade_totals, curvature_totals, k);
-    let sums = total.along(feet, grades, curvatures, k);
-    Reached { sums, segment: k }
+    let place = place_of(starts, last, location, near);
+    let total = Sums::kept(grade_totals, curvature_totals, place.segment);
+    let sums = total.along(place.feet, grades, curvatures, place.segment);
+    Reached {
+        sums,
+        segment: place.segment,
+    }
 }
 
 // Where the rear is; a train longer than where its head is begins at 0.

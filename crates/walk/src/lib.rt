@@ -3,6 +3,7 @@
 use consist::Consist;
 use profile::Segment;
 use step::Curve;
+use step::Load;
 use step::Run;
 use targets::Target;
 ghost use mathlib.Core.Path.{_≡_};
@@ -153,15 +154,22 @@ pub fn predict<'a>(
 ) -> Prediction
     requires { ⌜ Walkable c curve (trackOf count (now starts) (now grades) (now curvatures)) head speed ⌝ }
     requires { ⌜ AreTotals (trackOf count (now starts) (now grades) (now curvatures)) (now «grade_totals») (now «curvature_totals») ⌝ }
-    ensures { λ r. ⌜ r ≡ predictOf c (forceAt (c .rated) curve) (groundOf (trackOf count (now (starts .entry)) (now (grades .entry)) (now (curvatures .entry))) (c .length)) head speed speeds ⌝ }
+    ensures { λ r. ⌜ r ≡ predictOf c (forceAt (c .rated) curve) (groundOf (trackOf count (now (starts .entry)) (now (grades .entry)) (now (curvatures .entry))) c) head speed speeds ⌝ }
 {
-    let length = c.length as u32;
+    let load = Load {
+        cars: c.cars,
+        axles: c.axles,
+        weight: c.weight,
+        rated: c.rated,
+    };
+    let blocks = c.blocks;
+    let lengths = blocks.lengths;
+    let weights = blocks.weights;
     let mut run = started(head, speed);
     let mut arrivals = [record::NO_STOP; Target::MOST];
     let mut band = quiet_band(arrivals, speeds);
     // the segments of the last step, where those of the next are looked for
-    let mut head_in: usize = 0;
-    let mut rear_in: usize = 0;
+    let mut near = [0usize; shares::ENDS];
     let mut n: u32 = 0;
     loop {
         if !lies_in(band, run.q) {
@@ -172,7 +180,7 @@ pub fn predict<'a>(
         if (run.q == 0) | (n == STEPS_MOST) {
             return ended(run, arrivals);
         }
-        let found = track::under_train(
+        let under = shares::under(
             count,
             starts,
             grades,
@@ -180,14 +188,14 @@ pub fn predict<'a>(
             grade_totals,
             curvature_totals,
             run.head,
-            length,
-            head_in,
-            rear_in,
+            c.length,
+            c.weight,
+            blocks.count,
+            &lengths,
+            &weights,
+            &mut near,
         );
-        head_in = found.head_in;
-        rear_in = found.rear_in;
-        let under = found.under;
-        run = run.stepped(c, curve, under);
+        run = run.stepped(load, curve, under);
         n += 1;
     }
 }

@@ -1,2 +1,3 @@
--- Laws of what a writer tells.
+-- Laws of what a writer tells, and of a consist with the blocks of two lists.
 pub mod Told
+pub mod Listed

@@ -11,6 +11,7 @@ returns : tie.Need-returns
 returns c =
     let five = c .before .before .before .before in
     rw (
+      five .before .before .before .before .before .none .ensures,
       five .before .before .before .before .field .ensures .0,
       five .before .before .before .field2 .ensures .0,
       five .before .before .field3 .ensures .0,
@@ -21,12 +22,12 @@ returns c =
       c .before .field8 .ensures .0,
       c .field9 .ensures .0,
     )
-    (refl {a = ofFields (fieldsFrom 0 widths (now (five .before .before .before .before .before .before .args .s)))})
+    (refl {a = ofFields (fieldsFrom 0 widths (now (five .before .before .before .before .before .before .before .args .s)))})
 
 pub of-bytes-spec : {M : Type 1} → statement M
 of-bytes-spec =
     tie.close
     (tie.spec
-    (λ c κs. search needs) (λ c. search needs) (λ c κs. search needs) (λ c. search needs) (λ c κs. search needs) (λ c. search needs)
+    (λ c κs. search needs) (λ c κs. search needs) (λ c. search needs) (λ c κs. search needs) (λ c. search needs) (λ c κs. search needs) (λ c. search needs)
     (λ c κs. search needs) (λ c. search needs) (λ c κs. search needs) (λ c. search needs) (λ c κs. search needs) (λ c. search needs)
     (λ c κs. search needs) (λ c. search needs) (λ c κs. search needs) (λ c. search needs) (λ c κs. search needs) (λ c. search needs) returns)

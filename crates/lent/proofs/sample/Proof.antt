@@ -9,7 +9,7 @@ use Rattle.refusal.specs.declared.Verdict.the-variants.{Accepted}
 use Rattle.session.specs.declared.Session.{Session}
 use Rattle.held.specs.Held.{recordAt, readSession}
 use Rattle.held.proofs.Answers.{read-tells}
-use Rattle.lent.proofs.Calls.{sample-unread, sample-refused, sample-accepted}
+use Rattle.lent.proofs.Calls.{sample-unread, sample-refused, sample-accepted, next-open, whole}
 use borrow.Author.Needs.{needs}
 use Rattle.lent.proofs.sample.Statement.{statement}
 use Rattle.lent.proofs.sample.Tie as tie
@@ -73,16 +73,30 @@ returns-2 c =
     (c .verdict-number2 .ensures ∙ ap numberOfVerdict r)
     r
 
+-- accepted
+abbrev called : tie.After-enum-told3 → tie.After-sample
+called c = c .before .before .before .before
+
+put-requires : tie.Need-put-requires
+put-requires c κs =
+    let judged = c .before .before in
+    let call = called judged in
+    let k = record-read call in (
+      next-open (session k) (sample k) (profile k) (targets k) (decision k) (k .read-start .result .session) (held-as call)
+          (call .sample .result) (left call) (call .sample .ensures)
+          (judged .enum-told3 .given .1),
+      whole (session k) (ap (λ (r : Verdict × Session). r .0) (held-as call)),
+    )
+
 returns-3 : tie.Need-returns-3
 returns-3 c =
-    let put = c .before .before .before in
+    let put = c .before .before in
     let judged = put .before .before .before in
-    let call = judged .before .before .before .before in
+    let call = called judged in
     let k = record-read call in
     sample-accepted (session k) (sample k) (profile k) (targets k) (decision k) (k .read-start .result .session) (held-as call)
     (call .sample .result) (left call) (call .sample .ensures)
-    (c .verdict-number3 .ensures)
-    (put .write .ensures)
+    (put .put .ensures)
     (judged .enum-told3 .given .1)
 
 pub sample-spec : {M : Type 1} → statement M
@@ -91,4 +105,4 @@ sample-spec =
     (tie.spec
     (λ c κs. search needs) (λ c. search needs) (λ c. search needs) (λ c κs. search needs) (λ c. search needs) returns
     (λ c κs. search needs) (λ c. search needs) (λ c. search needs) (λ c κs. search needs) (λ c. search needs) (λ c. search needs) returns-2
-    (λ c κs. search needs) (λ c κs. search needs) (λ c. search needs) (λ c. search needs) returns-3)
+    put-requires (λ c. search needs) (λ c. search needs) returns-3)

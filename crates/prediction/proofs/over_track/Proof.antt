@@ -29,7 +29,7 @@ use Rattle.prediction.proofs.over_track.Tie as tie
 
 module _ (c : Consist) (k : Brake) (m : Sample) (t : List ℕ) (track : Track) (targets : Listed) (listed : targets ≡ listedOf t) where
   walk-is : (curve : Curve) (walked : Prediction) → curve ≡ penaltyCurve c (k .a) (k .b)
-      → walked ≡ predictOf c (forceAt (c .rated) curve) (groundOf track (c .length)) (m .head) (m .speed) (targets .speeds)
+      → walked ≡ predictOf c (forceAt (c .rated) curve) (groundOf track c) (m .head) (m .speed) (targets .speeds)
       → walked ≡ predictionOf (approachOver c k m track) (speedsIn t most)
   unfolding predictionOf
   walk-is curve walked drawn e = rw (e, drawn, listed)

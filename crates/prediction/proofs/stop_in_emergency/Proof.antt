@@ -29,7 +29,7 @@ predict-requires c κs =
 -- from the air, the curve and the walk, by the calls
 together : (c : Consist) (k : Brake) (m : Sample) (t : Track) (air : Air) (curve : Curve) (speeds : List ℕ) (found : Prediction)
     → air ≡ emergencyAir c k → curve ≡ emergencyCurve (air .a) (air .b) (air .equalization)
-    → found ≡ predictOf c (forceAt (c .rated) curve) (groundOf t (c .length)) (m .head) (m .speed) speeds
+    → found ≡ predictOf c (forceAt (c .rated) curve) (groundOf t c) (m .head) (m .speed) speeds
     → found .stop ≡ emergencyStop (emergencyOver c k m t)
 unfolding emergencyArrival predictOf
 together c k m t air curve speeds found started drawn walked = rw (walked, drawn, started)

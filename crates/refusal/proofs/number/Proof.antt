@@ -10,7 +10,7 @@ number-spec =
     tie.close
     (tie.spec
     (λ c. search needs) (λ c. search needs) (λ c. search needs) (λ c. search needs) (λ c. search needs) (λ c. search needs)
-    (λ c. search needs) (λ c. search needs) (λ c. search needs) (λ c. search needs) (λ c. search needs)
+    (λ c. search needs) (λ c. search needs) (λ c. search needs) (λ c. search needs) (λ c. search needs) (λ c. search needs)
     (λ c. sym (ap numberOf (c .enum-told .given .1)))
     (λ c. sym (ap numberOf (c .enum-told2 .given .1)))
     (λ c. sym (ap numberOf (c .enum-told3 .given .1)))
@@ -21,4 +21,5 @@ number-spec =
     (λ c. sym (ap numberOf (c .enum-told8 .given .1)))
     (λ c. sym (ap numberOf (c .enum-told9 .given .1)))
     (λ c. sym (ap numberOf (c .enum-told10 .given .1)))
-    (λ c. sym (ap numberOf (c .enum-told11 .given .1))))
+    (λ c. sym (ap numberOf (c .enum-told11 .given .1)))
+    (λ c. sym (ap numberOf (c .enum-told12 .given .1))))

@@ -9,7 +9,7 @@ use mir.Facts.{toZ-ofZ}
 use Rattle.whole.specs.Floor.{floorDiv}
 use Rattle.whole.proofs.Size.{fits-abs}
 use Rattle.whole.proofs.Words.{Holds, nat-holds, op-fits, op-holds, both}
-use Rattle.step.specs.Step.{opposing, loss}
+use Rattle.step.specs.Step.{carrying, opposing, loss}
 use Rattle.step.proofs.Bounds.{Words, scaled-most}
 use borrow.Author.Needs.{needs, sfits-of}
 use Rattle.step.proofs.lost.Statement.{statement}
@@ -17,7 +17,7 @@ use Rattle.step.proofs.lost.Tie as tie
 
 module _ (c : tie.After-opposing-force) where
   abbrev force : ℤ
-  force = let a = c .before .before .args in opposing (a .c) (a .f) (a .s) (a .q) (a .u .grade) (a .u .curvature)
+  force = let a = c .before .before .args in opposing (carrying (a .load)) (a .f) (a .s) (a .q) (a .u .grade) (a .u .curvature)
 
   force-holds : Holds w64 (ofZ w64 (c .opposing-force .result)) force
   force-holds = record { reads = toZ-ofZ (sfits-of (c .opposing-force .ok)) ∙ c .opposing-force .ensures }
@@ -28,10 +28,10 @@ module _ (c : tie.After-opposing-force) where
   scaled-fits : SFits w64 (pos 1449 *ℤ force)
   scaled-fits =
       let s = c .before .before in
-      let w : Words (s .args .c) = omega arith in
+      let w : Words (carrying (s .args .load)) = omega arith in
       fits-abs (omega (arith, scaled-most w (s .pre)))
 
-  divisor-holds : Holds w64 (605000 * c .before .before .args .c .weight) (pos (605000 * c .before .before .args .c .weight))
+  divisor-holds : Holds w64 (605000 * c .before .before .args .load .weight) (pos (605000 * c .before .before .args .load .weight))
   divisor-holds = nat-holds (omega arith)
 
 cast-w : tie.Need-cast-w

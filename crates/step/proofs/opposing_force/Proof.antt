@@ -7,20 +7,24 @@ use mir.Syntax.{w64}
 use mir.Val.{SFits, toZ, ofZ}
 use Rattle.whole.proofs.Size.{fits-abs}
 use Rattle.whole.proofs.Words.{Holds, nat-holds, fit-holds, op-fits, op-holds}
-use Rattle.step.specs.Step.{opposing}
+use Rattle.consist.specs.declared.Consist.{Consist}
+use Rattle.step.specs.Step.{carrying, opposing}
 use Rattle.step.proofs.Bounds.{Words, drag, pull, bend, drag-most, pull-most, bend-most, sum-most, opposing-most}
 use borrow.Author.Needs.{needs}
 use Rattle.step.proofs.opposing_force.Statement.{statement}
 use Rattle.step.proofs.opposing_force.Tie as tie
 
 module _ (c : tie.Start) where
+  abbrev train : Consist
+  train = carrying (c .args .load)
+
   abbrev d : ℕ
-  d = drag (c .args .c) (c .args .f) (c .args .s) (c .args .q)
+  d = drag train (c .args .f) (c .args .s) (c .args .q)
 
   abbrev b : ℕ
-  b = bend (c .args .c) (c .args .u)
+  b = bend train (c .args .u)
 
-  words : Words (c .args .c)
+  words : Words train
   words = omega arith
 
   drag-in : d ≤ 680000000000000
@@ -29,35 +33,35 @@ module _ (c : tie.Start) where
   bend-in : b ≤ 270000000000000
   bend-in = bend-most words (c .pre)
 
-  factor-holds : Holds w64 (2000 * c .args .c .weight) (pos (2000 * c .args .c .weight))
+  factor-holds : Holds w64 (2000 * train .weight) (pos (2000 * train .weight))
   factor-holds = nat-holds (omega (arith, words))
 
   grade-holds : Holds w64 (ofZ w64 (c .args .u .grade)) (c .args .u .grade)
   grade-holds = fit-holds (fits-abs (omega (arith, c .pre .grade)))
 
-  pull-fits : SFits w64 (pull (c .args .c) (c .args .u))
+  pull-fits : SFits w64 (pull train (c .args .u))
   pull-fits = fits-abs (omega (arith, pull-most words (c .pre)))
 
   -- as the code comes to them: the pull, with the drag, with the bend
   abbrev pulled : ℕ
-  pulled = ofZ w64 (toZ w64 (2000 * c .args .c .weight) *ℤ toZ w64 (ofZ w64 (c .args .u .grade)))
+  pulled = ofZ w64 (toZ w64 (2000 * train .weight) *ℤ toZ w64 (ofZ w64 (c .args .u .grade)))
 
-  pulled-holds : Holds w64 pulled (pull (c .args .c) (c .args .u))
+  pulled-holds : Holds w64 pulled (pull train (c .args .u))
   pulled-holds = op-holds _*ℤ_ factor-holds grade-holds pull-fits
 
   drag-holds : Holds w64 d (pos d)
   drag-holds = nat-holds (omega (arith, drag-in))
 
-  sum-fits : SFits w64 (pos d +ℤ pull (c .args .c) (c .args .u))
+  sum-fits : SFits w64 (pos d +ℤ pull train (c .args .u))
   sum-fits = fits-abs (omega (arith, sum-most words (c .pre)))
 
-  sum-holds : Holds w64 (ofZ w64 (toZ w64 d +ℤ toZ w64 pulled)) (pos d +ℤ pull (c .args .c) (c .args .u))
+  sum-holds : Holds w64 (ofZ w64 (toZ w64 d +ℤ toZ w64 pulled)) (pos d +ℤ pull train (c .args .u))
   sum-holds = op-holds _+ℤ_ drag-holds pulled-holds sum-fits
 
   bend-holds : Holds w64 b (pos b)
   bend-holds = nat-holds (omega (arith, bend-in))
 
-  whole-fits : SFits w64 (pos d +ℤ pull (c .args .c) (c .args .u) +ℤ pos b)
+  whole-fits : SFits w64 (pos d +ℤ pull train (c .args .u) +ℤ pos b)
   unfolding opposing
   whole-fits = fits-abs (omega (arith, opposing-most words (c .pre)))
 

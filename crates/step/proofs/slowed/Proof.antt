@@ -15,7 +15,7 @@ use Rattle.whole.proofs.Order.{leZ-true, leZ-false}
 use Rattle.whole.proofs.Size.{abs-sub, abs-parts, fits-abs}
 use Rattle.whole.proofs.Floors.{abs-floor}
 use Rattle.whole.proofs.Words.{Holds, nat-holds, op-fits, op-holds, unsigned-is, unsigned-fits}
-use Rattle.step.specs.Step.{opposing, loss}
+use Rattle.step.specs.Step.{carrying, opposing, loss}
 use Rattle.step.specs.Range.{Opposed}
 use Rattle.step.proofs.Bounds.{Words, scaled-most}
 use borrow.Author.Needs.{needs, sfits-of}
@@ -29,19 +29,19 @@ loss-most {c} {f} {s} {q} {u} w h =
 
 module _ (c : tie.After-lost) where
   abbrev rest : ℤ
-  rest = let a = c .before .args in pos (a .q) -ℤ loss (a .c) (a .f) (a .s) (a .q) (a .u .grade) (a .u .curvature)
+  rest = let a = c .before .args in pos (a .q) -ℤ loss (carrying (a .load)) (a .f) (a .s) (a .q) (a .u .grade) (a .u .curvature)
 
   rest-most : natAbs rest < 2 ^ 63
   rest-most =
       let s = c .before in
       let a = s .args in
-      let w : Words (a .c) = omega arith in
-      omega (arith, abs-sub (pos (a .q)) (loss (a .c) (a .f) (a .s) (a .q) (a .u .grade) (a .u .curvature)), loss-most w (s .pre))
+      let w : Words (carrying (a .load)) = omega arith in
+      omega (arith, abs-sub (pos (a .q)) (loss (carrying (a .load)) (a .f) (a .s) (a .q) (a .u .grade) (a .u .curvature)), loss-most w (s .pre))
 
   q-holds : Holds w64 (c .before .args .q) (pos (c .before .args .q))
   q-holds = nat-holds (omega arith)
 
-  lost-holds : let a = c .before .args in Holds w64 (ofZ w64 (c .lost .result)) (loss (a .c) (a .f) (a .s) (a .q) (a .u .grade) (a .u .curvature))
+  lost-holds : let a = c .before .args in Holds w64 (ofZ w64 (c .lost .result)) (loss (carrying (a .load)) (a .f) (a .s) (a .q) (a .u .grade) (a .u .curvature))
   lost-holds = record { reads = toZ-ofZ (sfits-of (c .lost .ok)) ∙ c .lost .ensures }
 
   rest-fits : SFits w64 (toZ w64 (c .before .args .q) -ℤ toZ w64 (ofZ w64 (c .lost .result)))

@@ -1,75 +1,62 @@
--- `stored::put` meets its contract: the fields, the consist's record and the check word, one after the other. Assumes nothing.
-use mathlib.Core.Path.{_≡_, refl, ap, ap₂, _∙_}
-use Prim.Native.Nat.{ℕ, _≤_}
+-- `stored::put` meets its contract: the front, and what stands behind it. Assumes nothing.
+use mathlib.Core.Path.{_≡_, sym, ap, ap₂, _∙_}
+use mathlib.Core.List.{List, _++_}
+use Prim.Native.Nat.{ℕ, _+_, _-_, _≤_}
 use native.Mathlib.Omega.{arith}
-use mathlib.Core.Bool.{true, false}
-use mathlib.Core.List.{List, _++_, append-nil}
-use lib.ListN.{length, take, drop, length-take, length-drop, drop-of-length-le}
-use lib.Seq.{drop-drop}
-use borrow.Author.Tests.{le-ltb}
+use lib.ListN.{length, take, drop, length-append, length-drop}
+use lib.Seq.{length-take-le}
 use denote.Ref.{now}
-use Rattle.bits.specs.Bytes.{Bytes, bytesFrom}
-use Rattle.bits.specs.Places.{putFrom}
 use Rattle.bits.proofs.Parts.{put-part}
-use Rattle.bits.proofs.Places.{put-all}
-use Rattle.refusal.specs.Written.{noRoom}
-use Rattle.seal.specs.Seal.{resealed}
-use Rattle.seal.proofs.Seals.{resealed-over}
-use Rattle.consist.specs.Consist as consist
-use Rattle.consist.proofs.Answers as consist-answers
-use Rattle.consist.proofs.Sound as consist-sound
+use Rattle.blocks.specs.Blocks as blocks
 use Rattle.session.specs.declared.Session.{Session}
-use Rattle.session.specs.Session.{isOpen}
-use Rattle.session.proofs.Opened.{opened}
-use Rattle.held.specs.Held.{widths, fieldsOf, bytesOf}
-use Rattle.held.proofs.Answers.{fits}
+use Rattle.held.specs.Held.{behindFor, sizeOf, frontOf, behindOf, bytesOf}
+use Rattle.held.proofs.Answers.{front-size, few}
 use borrow.Author.Needs.{needs}
 use Rattle.stored.proofs.put.Statement.{statement}
 use Rattle.stored.proofs.put.Tie as tie
 
-module _ (x : Session) (o : isOpen x ≡ true) where
-  -- the consist's record fills 16 bytes
-  consist-put : (t : List ℕ) → length t ≡ 16 → consist.writeConsist (x .consist) t .1 ≡ consist.bytesOf (x .consist)
-  unfolding noRoom consist.bytesOf
-  consist-put t e =
-      let c = consist-sound.is-sound (x .consist) (opened x o .tested) in
-      (λ i. consist-answers.write-is (x .consist) t false false false (c .0) (c .1) (le-ltb (length t) 16 (omega (arith, e))) i .1)
-      ∙ (λ i. consist.bytesOf (x .consist) ++ drop-of-length-le t {i = 16} (omega (arith, e)) i)
-      ∙ append-nil (consist.bytesOf (x .consist))
+-- the front is put, and `end` is the record's size
+module _ (x : Session) (out l : List ℕ) (end : ℕ) (room : sizeOf x ≤ length out) (front : l ≡ frontOf x ++ drop 41 out) (sized : end ≡ sizeOf x) where
+  abbrev n : ℕ
+  n = x .consist .blocks .count
 
-  all-put : (out fields behind whole : List ℕ) → Bytes out → 41 ≤ length out → fields ≡ putFrom 0 widths (fieldsOf x) out
-      → behind ≡ consist.writeConsist (x .consist) (take 16 (drop 21 fields)) .1
-      → whole ≡ resealed (take 41 (take 21 fields ++ (behind ++ drop 16 (drop 21 fields))))
-      → whole ++ drop 41 (take 21 fields ++ (behind ++ drop 16 (drop 21 fields))) ≡ bytesOf x ++ drop 41 out
-  unfolding bytesOf consist.bytesOf
-  all-put out fields behind whole b room f c w =
-      let own = bytesFrom 21 widths (fieldsOf x) in
-      let first : fields ≡ own ++ drop 21 out = f ∙ put-all 21 widths (fieldsOf x) out tt refl (fits x o) b (omega arith) in
-      let l : length (take 16 (drop 21 fields)) ≡ 16 = rw (ap (drop 21) first) (simp (length-take, length-drop) (omega arith)) in
-      let both = put-part out own fields 21 refl first behind 16 ∙ (λ i. (own ++ (c ∙ consist-put (take 16 (drop 21 fields)) l) i) ++ drop 37 out) in
-      let seal = resealed-over (own ++ consist.bytesOf (x .consist)) (take 4 (drop 37 out)) (simp (length-take, length-drop) (omega arith)) in
-      ap₂ _++_ (w ∙ (λ i. resealed (take 41 (both i))) ∙ seal) (ap (drop 41) both ∙ drop-drop 4 37 out)
+  left : behindFor n ≤ length (drop 41 l)
+  left =
+      let e : length l ≡ 41 + (length out - 41) = ap length front ∙ length-append (frontOf x) (drop 41 out) ∙ ap₂ _+_ (front-size x) (length-drop 41 out) in
+      simp length-drop (omega arith)
+
+  behind-room : behindFor n ≡ length (take (end - 41) (drop 41 l))
+  behind-room = let e : end - 41 ≡ behindFor n = omega arith in sym (ap (λ (k : ℕ). length (take k (drop 41 l))) e ∙ length-take-le (behindFor n) (drop 41 l) left)
+
+  both-put : (z : List ℕ) → z ≡ behindOf n (blocks.bytesOf (x .consist .blocks)) → take 41 l ++ (z ++ drop (end - 41) (drop 41 l)) ≡ bytesOf x ++ drop (sizeOf x) out
+  unfolding bytesOf
+  both-put z e =
+      let k : 41 + (end - 41) ≡ sizeOf x = omega arith in
+      put-part out (frontOf x) l 41 (front-size x) front z (end - 41)
+      ∙ ap₂ (λ (b : List ℕ) (m : ℕ). (frontOf x ++ b) ++ drop m out) e k
+
+-- past the front
+module _ (c : tie.After-put-front) where
+  abbrev sized : tie.After-size-for
+  sized = c .before .before
+
+  abbrev start : tie.Start
+  start = sized .before .before .before
+
+put-behind-requires : tie.Need-put-behind-requires
+put-behind-requires c κs =
+    let front = c .before .before .before in
+    let s = start front in
+    (few (s .args .x) (s .pre .0), behind-room (s .args .x) (now (s .args .out)) _ _ (s .pre .1) (front .put-front .ensures) (sized front .size-for .ensures))
 
 returns : tie.Need-returns
 returns c =
-    let sealed = c .before .before in
-    let written = sealed .before .before .before .before in
-    let back = written .before .before .before .before in
-    let pressures = back .before .before .before .before in
-    let front = pressures .before .before .before .before in
-    let start = front .before .before .before in
-    let a = start .before .args in
-    all-put (a .x) (start .before .pre .0) (now (a .out)) _ _ _ (λ i. start .slice-known .given i .fits) (start .before .pre .1)
-    (back .put-back .ensures
-    ∙ ap (putFrom 96 (drop 9 widths) (drop 9 (fieldsOf (a .x))))
-    (pressures .put-pressures .ensures ∙ ap (putFrom 32 (take 4 (drop 5 widths)) (take 4 (drop 5 (fieldsOf (a .x))))) (front .put-front .ensures)))
-    (λ i. written .write .ensures i .1)
-    (sealed .put-check-word .ensures)
+    let behind = c .before .before in
+    let front = behind .before .before .before .before in
+    let s = start front in
+    both-put (s .args .x) (now (s .args .out)) _ _ (s .pre .1) (front .put-front .ensures) (sized front .size-for .ensures) _ (behind .put-behind .ensures)
 
 pub put-spec : {M : Type 1} → statement M
 put-spec =
     tie.close
-    (tie.spec
-    (λ c κs. search needs) (λ c κs. search needs) (λ c κs. search needs) (λ c. search needs) (λ c. search needs) (λ c. search needs) (λ c κs. search needs)
-    (λ c. search needs) (λ c. search needs) (λ c. search needs) (λ c κs. search needs) (λ c. search needs)
-    returns)
+    (tie.spec (λ c κs. search needs) (λ c κs. search needs) (λ c. search needs) (λ c. search needs) (λ c. search needs) put-behind-requires (λ c. search needs) returns)

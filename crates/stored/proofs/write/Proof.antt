@@ -2,6 +2,7 @@
 use mathlib.Core.Path.{_≡_, refl, sym, ap, _∙_}
 use Prim.Native.Nat.{_≤_}
 use mathlib.Core.Bool.{true, false, not}
+use lib.Dec.{ltb}
 use lib.ListN.{length}
 use borrow.Author.Tests.{ltb-false, not-false}
 use denote.Ref.{now}
@@ -10,6 +11,7 @@ use Rattle.refusal.specs.Written.{noRoom}
 use Rattle.refusal.specs.declared.Verdict.the-variants.{Accepted}
 use Rattle.refusal.proofs.Steps.{on-unless, off-unless}
 use Rattle.session.specs.Session.{isOpen}
+use Rattle.held.specs.Held.{sizeOf}
 use Rattle.held.proofs.Answers.{write-is, write-accepted}
 use borrow.Author.Needs.{needs}
 use Rattle.stored.proofs.write.Statement.{statement}
@@ -20,13 +22,17 @@ abbrev start : tie.After-enum-told → tie.Start
 start c = c .before .before .before .before .before
 
 abbrev first : tie.After-enum-told3 → tie.After-enum-told
-first c = c .before .before .before
+first c = c .before .before .before .before
 
 past-open : (c : tie.After-enum-told) → isOpen (start c .args .x) ≡ true
 past-open c = sym (c .before .before .before .is-open .ensures) ∙ not-false _ (on-unless _ (sym (c .enum-told .given .1) ∙ c .before .before .unless .ensures))
 
-past-room : (c : tie.After-enum-told3) → 41 ≤ length (now (start (first c) .args .out))
-past-room c = ltb-false _ 41 (on-unless _ (sym (c .enum-told3 .given .1) ∙ c .before .before .unless2 .ensures))
+past-room : (c : tie.After-enum-told3) → sizeOf (start (first c) .args .x) ≤ length (now (start (first c) .args .out))
+past-room c =
+    let sized = c .before .before .before in
+    let out = now (start (first c) .args .out) in
+    ltb-false (length out) (sizeOf (start (first c) .args .x))
+    (ap (ltb (length out)) (sym (sized .size-for .ensures)) ∙ on-unless _ (sym (c .enum-told3 .given .1) ∙ c .before .before .unless2 .ensures))
 
 returns : tie.Need-returns
 returns c =
@@ -36,8 +42,11 @@ returns c =
 returns-2 : tie.Need-returns-2
 unfolding noRoom
 returns-2 c =
-    let full = off-unless _ (sym (c .enum-told4 .given .1) ∙ c .before .before .unless2 .ensures) in
-    ap told (sym (write-is _ _ false true (ap not (past-open (c .before .before .before))) full))
+    let sized = c .before .before .before in
+    let past = sized .before in
+    let out = now (start past .args .out) in
+    let full = ap (ltb (length out)) (sym (sized .size-for .ensures)) ∙ off-unless _ (sym (c .enum-told4 .given .1) ∙ c .before .before .unless2 .ensures) in
+    ap told (sym (write-is _ _ false true (ap not (past-open past)) full))
 
 returns-3 : tie.Need-returns-3
 returns-3 c =
@@ -49,5 +58,5 @@ write-spec =
     tie.close
     (tie.spec
     (λ c κs. search needs) (λ c κs. search needs) (λ c. search needs) (λ c. search needs) returns
-    (λ c κs. search needs) (λ c. search needs) (λ c. search needs) returns-2
+    (λ c κs. search needs) (λ c κs. search needs) (λ c. search needs) (λ c. search needs) returns-2
     (λ c κs. (past-open (first (c .before)), past-room (c .before))) (λ c. search needs) returns-3)

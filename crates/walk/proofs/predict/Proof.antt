@@ -11,17 +11,15 @@ use lib.ListN.{length}
 use borrow.Author.Tests.{ltb-true, leb-true, eqb-false, not-false}
 use Rattle.consist.specs.declared.Consist.{Consist}
 use Rattle.track.specs.declared.Track.{Track}
-use Rattle.track.specs.declared.Found.{Found}
 use Rattle.track.specs.declared.Under.{Under}
-use Rattle.track.specs.Track.{underOf}
-use Rattle.track.specs.Totals.{foundOf}
 use Rattle.track.specs.Steps.{trackOf}
-use Rattle.track.specs.Gentle.{GentleAverages}
-use Rattle.track.proofs.Gentle.{gentle-averages}
+use Rattle.shares.specs.Shares.{groundUnder}
+use Rattle.shares.specs.Bounds.{GentleGround}
+use Rattle.shares.proofs.Bounds.{gentle-ground}
 use Rattle.targets.specs.Targets.{most}
 use Rattle.step.specs.Curve.{forceAt}
 use Rattle.step.specs.declared.Run.{Run}
-use Rattle.step.specs.Step.{stepsMost, groundOf, even, stepOf}
+use Rattle.step.specs.Step.{stepsMost, groundOf, even, opposing, loss, stepOf, loadOf, carrying}
 use Rattle.step.specs.Range.{squareMost}
 use Rattle.step.proofs.Gain.{gains, under-bound, gentle-no-steeper}
 use Rattle.walk.specs.declared.Band.{Band}
@@ -31,12 +29,12 @@ use Rattle.walk.proofs.predict.Statement.{statement}
 use Rattle.walk.proofs.predict.Tie as tie
 
 abbrev Inv-loop : tie.InvT-loop
-Inv-loop c curve count starts grades curvatures grade-totals curvature-totals head speed speeds length run₀ arrivals₀ band₀ head-in₀ rear-in₀ n₀ run arrivals band head-in rear-in n =
-    Walked c (forceAt (c .rated) curve) (groundOf (trackOf count starts grades curvatures) (c .length)) head speed speeds n run arrivals
+Inv-loop c curve count starts grades curvatures grade-totals curvature-totals head speed speeds load blocks lengths weights run₀ arrivals₀ band₀ near₀ n₀ run arrivals band near n =
+    Walked c (forceAt (c .rated) curve) (groundOf (trackOf count starts grades curvatures) c) head speed speeds n run arrivals
     × Quiet speeds arrivals band
 
 abbrev μ-loop : tie.MeasureT-loop
-μ-loop c curve count starts grades curvatures grade-totals curvature-totals head speed speeds length run₀ arrivals₀ band₀ head-in₀ rear-in₀ n₀ run arrivals band head-in rear-in n = stepsMost - n
+μ-loop c curve count starts grades curvatures grade-totals curvature-totals head speed speeds load blocks lengths weights run₀ arrivals₀ band₀ near₀ n₀ run arrivals band near n = stepsMost - n
 
 carried : {r : Run} {speeds before arrivals arrivals′ : List ℕ} {band band′ : Band} → arrivals′ ≡ arrivals → band′ ≡ band
     → Marked r speeds before arrivals → Quiet speeds arrivals band → Marked r speeds before arrivals′ × Quiet speeds arrivals′ band′
@@ -56,7 +54,7 @@ module _ (c : tie.Joined1 Inv-loop μ-loop) where
   here = c .before .before
 
   abbrev entry : tie.Start Inv-loop μ-loop
-  entry = here .before .before .before .before
+  entry = here .before .before .before .before .before .before
 
   abbrev track : Track
   track = let a = entry .args in trackOf (a .count) (a .starts .now) (a .grades .now) (a .curvatures .now)
@@ -105,13 +103,10 @@ module _ (c : tie.Else2 Inv-loop μ-loop) where
   moves = omega (arith, goes-on .0)
 
 -- the step over the ground under the train is the step over the track
-over-track : (c : Consist) (force : ℕ → ℕ) (t : Track) (length : ℕ) (r r′ : Run) (u : Under)
-    → r′ ≡ stepOf c force (even u) r → u ≡ underOf t (r .head) length → r′ ≡ stepOf c force (groundOf t length) r
-unfolding stepOf
-over-track c force t length r r′ u e f = e ∙ ap (λ (x : Under). stepOf c force (even x) r) f
-
-cast-length : tie.Need-cast-length Inv-loop μ-loop
-cast-length c = omega arith
+over-track : (c : Consist) (force : ℕ → ℕ) (t : Track) (r r′ : Run) (u : Under)
+    → r′ ≡ stepOf (carrying (loadOf c)) force (even u) r → u ≡ groundUnder t (r .head) (c .length) (c .weight) (c .blocks) → r′ ≡ stepOf c force (groundOf t c) r
+unfolding stepOf opposing loss
+over-track c force t r r′ u e f = e ∙ ap (λ (x : Under). stepOf c force (even x) r) f
 
 started-requires : tie.Need-started-requires Inv-loop μ-loop
 started-requires c κs = tt
@@ -121,7 +116,7 @@ quiet-band-requires c κs = tt
 
 loop-holds : tie.Need-loop-holds Inv-loop μ-loop
 loop-holds c =
-    let a = c .before .before .before .args in
+    let a = c .before .before .before .before .before .args in
     (rw (c .before .started .ensures) (walk-begins (a .c) _ _ (a .head) (a .speed) (a .speeds)), c .quiet-band .ensures)
 
 lies-in-requires : tie.Need-lies-in-requires Inv-loop μ-loop
@@ -142,53 +137,54 @@ returns c =
     let e : c .ended .result ≡ endedWith (here j .loop .run) (j .if1 .arrivals) = c .ended .ensures in
     e ∙ answer-ended (eight (entry j)) (here j .loop .inv .0) (marks j .0) (entry j .pre .0 .head) (c .before .if2 .taken)
 
-under-train-requires : tie.Need-under-train-requires Inv-loop μ-loop
-under-train-requires c κs = let s = entry (joined c) in (s .pre .0 .track, s .pre .1)
+-- where all is lent
+abbrev lent : tie.After-under Inv-loop μ-loop → tie.Else2 Inv-loop μ-loop
+lent c = c .before .before .before .before
 
--- what is found under the train is what is under it
-under-is : (c : tie.After-under-train Inv-loop μ-loop) → let j = joined (c .before) in
-    c .under-train .result .under ≡ underOf (track j) (here j .loop .run .head) (entry j .args .c .length)
-under-is c =
-    let j = joined (c .before) in
-    let e : c .under-train .result ≡ foundOf (track j) (here j .loop .run .head) (entry j .args .c .length) = c .under-train .ensures in
-    ap (λ (f : Found). f .under) e
+under-requires : tie.Need-under-requires Inv-loop μ-loop
+under-requires c κs = let s = entry (joined (c .before .before .before)) in (s .pre .0 .track, (s .pre .1, s .pre .0 .blocks))
+
+-- what is under the train
+under-is : (c : tie.After-under Inv-loop μ-loop) → let j = joined (lent c) in let t = entry j .args .c in
+    c .under .result ≡ groundUnder (track j) (here j .loop .run .head) (t .length) (t .weight) (t .blocks)
+under-is c = c .under .ensures
 
 stepped-requires : tie.Need-stepped-requires Inv-loop μ-loop
-unfolding GentleAverages
+unfolding GentleGround
 stepped-requires c κs =
-    let e = c .before .before in
+    let e = lent c in
     let j = joined e in
     let s = entry j .pre .0 in
     let r = here j .loop .run in
     let w = here j .loop .inv .0 in
-    let averaged = gentle-averages (track j) (r .head) (entry j .args .c .length) (s .track) in
+    let t = entry j .args .c in
+    let averaged = gentle-ground (track j) (r .head) (t .length) (t .weight) (t .blocks) (s .track) (s .blocks) in
     record {
       rated = s .rated;
       applied = record { curve = s .curve; clock = omega (arith, w .clock-most, w .steps) };
-      grade = rw (under-is (c .before)) (omega (arith, averaged .grade));
-      curvature = rw (under-is (c .before)) (omega (arith, averaged .curvature));
+      grade = rw (under-is c) (omega (arith, averaged .grade));
+      curvature = rw (under-is c) (omega (arith, averaged .curvature));
       head = omega (arith, w .head-is, w .steps, s .head);
       some = moves e;
       slow = slow j;
     }
 
 add-n : tie.Need-add-n Inv-loop μ-loop
-add-n c = omega (arith, steps-left (c .before .before .before))
+add-n c = omega (arith, steps-left (lent (c .before)))
 
 loop-less : tie.Need-loop-less Inv-loop μ-loop
-loop-less c = omega (arith, steps-left (c .before .before .before))
+loop-less c = omega (arith, steps-left (lent (c .before)))
 
 loop-again : tie.Need-loop-again Inv-loop μ-loop
 loop-again c =
-    let found = c .before .before in
-    let e = found .before in
+    let e = lent (c .before) in
     let j = joined e in
     let a = entry j .args in
     let s = entry j .pre .0 in
     let r = here j .loop .run in (
-      rw (over-track (a .c) (force j) (track j) (a .c .length) r _ _ (c .stepped .ensures) (under-is found))
+      rw (over-track (a .c) (force j) (track j) r _ _ (c .stepped .ensures) (under-is (c .before)))
           (walks-on (eight (entry j)) (here j .loop .inv .0) (marks j .0) (s .head) (moves e) (steps-left e)
-          (gains (a .c) (force j) (groundOf (track j) (a .c .length)) (s .limited) (gentle-no-steeper (track j) _ (s .track)) r)),
+          (gains (a .c) (force j) (groundOf (track j) (a .c)) (s .limited) (gentle-no-steeper (track j) (a .c) (s .track) (s .blocks)) r)),
       marks j .1,
     )
 
@@ -198,7 +194,6 @@ predict-spec =
     (tie.spec
     Inv-loop
     μ-loop
-    cast-length
     started-requires
     quiet-band-requires
     loop-holds
@@ -207,7 +202,7 @@ predict-spec =
     quiet-band-requires-2
     ended-requires
     returns
-    under-train-requires
+    under-requires
     stepped-requires
     add-n
     loop-less

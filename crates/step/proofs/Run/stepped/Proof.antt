@@ -10,7 +10,7 @@ use Rattle.consist.specs.declared.Consist.{Consist}
 use Rattle.track.specs.declared.Under.{Under}
 use Rattle.step.specs.declared.Run.{Run}
 use Rattle.step.specs.Curve.{forceAt}
-use Rattle.step.specs.Step.{even, loss, stepTime, stepOf}
+use Rattle.step.specs.Step.{even, carrying, loss, stepTime, stepOf}
 use Rattle.step.specs.Range.{rootMost}
 use Rattle.step.proofs.Bounds.{force-most, root-most, time-most}
 use borrow.Author.Needs.{needs}
@@ -33,7 +33,7 @@ slowed-requires c κs =
     let s = c .before .before in
     let a = s .args in
     record {
-      force = rw (c .force .ensures) (force-most (a .c .rated) (a .curve) _ (s .pre .rated) (s .pre .applied .curve));
+      force = rw (c .force .ensures) (force-most (a .load .rated) (a .curve) _ (s .pre .rated) (s .pre .applied .curve));
       root = rooted (c .before) .1;
       squared = s .pre .slow;
       grade = s .pre .grade;
@@ -68,7 +68,7 @@ returns c =
     let root = b .before .before .isqrt in
     let forced = b .before .force in
     let a = b .before .before .before .args in
-    together (a .c) (forceAt (a .c .rated) (a .curve)) (a .u) (a .self) (root .result) (forced .result) (b .slowed .result) (root .ensures) (forced .ensures) (b .slowed .ensures)
+    together (carrying (a .load)) (forceAt (a .load .rated) (a .curve)) (a .u) (a .self) (root .result) (forced .result) (b .slowed .result) (root .ensures) (forced .ensures) (b .slowed .ensures)
 
 pub stepped-spec : {M : Type 1} → statement M
 stepped-spec = tie.close (tie.spec isqrt-requires force-requires slowed-requires add-head mul-clock div-clock add-clock returns)

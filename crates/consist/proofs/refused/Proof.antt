@@ -1,0 +1,11 @@
+-- `consist::refused` meets its contract. Assumes nothing.
+use mathlib.Core.Path.{refl}
+use borrow.Author.Needs.{needs}
+use Rattle.consist.proofs.refused.Statement.{statement}
+use Rattle.consist.proofs.refused.Tie as tie
+
+returns : tie.Need-returns
+returns c = rw (c .none .ensures)
+
+pub refused-spec : {M : Type 1} → statement M
+refused-spec = tie.close (tie.spec (λ c κs. search needs) returns)
