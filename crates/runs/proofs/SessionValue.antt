@@ -211,9 +211,9 @@ sessionIn v =
       number (part v 4),
     )
 
--- a consist with other blocks, as many
-abbrev carrying : Consist → (lengths weights : List ℕ) → Consist
-carrying c lengths weights = record {
+-- a consist with as many blocks, of these lengths and weights
+abbrev withLists : Consist → (lengths weights : List ℕ) → Consist
+withLists c lengths weights = record {
   cars = c .cars;
   axles = c .axles;
   weight = c .weight;
@@ -232,7 +232,7 @@ session-read x =
     let k = x .brake in
     let told : ℕ → List ℕ → List ℕ → Told = λ n ls ws. (
       x .opened,
-      carrying (x .consist) ls ws,
+      withLists (x .consist) ls ws,
       n ∷ k .hold ∷ k .a ∷ k .b ∷ k .equalization ∷ k .fall ∷ k .«last_front» ∷ k .«last_rear» ∷ k .«last_time» ∷ bit (k .sampled) ∷ [],
       x .cause,
       x .emergency,
