@@ -2,6 +2,8 @@
 use Prim.Native.Nat.{ℕ}
 use mathlib.Core.Bool.{true}
 use Rattle.brake.specs.declared.State.{State}
+use Rattle.brake.specs.declared.Choice.{Choice}
+use Rattle.brake.specs.declared.Heard.{Heard}
 use Rattle.brake.specs.declared.Brake.{Brake}
 use Rattle.air.specs.declared.Air.{Air}
 
@@ -30,9 +32,9 @@ module _ (k : Air) where
   abbrev pub withFall : ℕ → Air
   withFall x = record { state = k .state; hold = k .hold; a = k .a; b = k .b; equalization = k .equalization; fall = x }
 
-  -- the brake, with last front, last rear and last time of an accepted sample
-  abbrev pub withLast : ℕ → ℕ → ℕ → Brake
-  withLast front rear time = record {
+  -- the brake, with last front, last rear and last time of an accepted sample, the choice in force and when the rear was last present
+  abbrev pub withLast : ℕ → ℕ → ℕ → Choice → Heard → Brake
+  withLast front rear time choice heard = record {
     state = k .state;
     hold = k .hold;
     a = k .a;
@@ -43,4 +45,6 @@ module _ (k : Air) where
     «last_rear» = rear;
     «last_time» = time;
     sampled = true;
+    choice = choice;
+    heard = heard;
   }

@@ -8,8 +8,10 @@ use borrow.Author.Tests.{leb-true, le-leb, eqb-true, eq-eqb}
 use Rattle.consist.specs.declared.Consist.{Consist}
 use Rattle.brake.specs.declared.State.{State}
 use Rattle.brake.specs.declared.State.the-variants.{Charged, ApplyingService, HoldingService, ApplyingEmergency, HoldingEmergency, Charging}
+use Rattle.brake.specs.declared.Choice.{Choice}
 use Rattle.brake.specs.declared.Brake.{Brake}
 use Rattle.brake.specs.State.{stateNumber}
+use Rattle.brake.specs.Rear.{heardNumber}
 use Rattle.brake.specs.Brake.{atOpening, isAtOpening}
 use Rattle.brake.specs.Sound.{mostPressure, mostTime, mostB, mostFall, Balance, isBalanced, Sound, isSound}
 use Rattle.brake.proofs.Told.{brake-one}
@@ -46,21 +48,22 @@ sound-is c k =
     ⊗ at-most (k .«last_front») mostPressure
     ⊗ at-most (k .«last_rear») mostPressure
     ⊗ at-most (k .«last_time») mostTime
+    ⊗ at-most (heardNumber (k .heard)) (mostTime + 1)
     ⊗ balanced-is (k .state) (c .set) (k .a) (k .b) (k .equalization) in (
       λ h.
-          let ((((((((a, b), equalization), fall), hold), front), rear), time), balance) = all .0 h in
-          record { a = a; b = b; equalization = equalization; fall = fall; hold = hold; front = front; rear = rear; time = time; balance = balance },
-      λ s. all .1 ((((((((s .a, s .b), s .equalization), s .fall), s .hold), s .front), s .rear), s .time), s .balance),
+          let (((((((((a, b), equalization), fall), hold), front), rear), time), heard), balance) = all .0 h in
+          record { a = a; b = b; equalization = equalization; fall = fall; hold = hold; front = front; rear = rear; time = time; heard = heard; balance = balance },
+      λ s. all .1 (((((((((s .a, s .b), s .equalization), s .fall), s .hold), s .front), s .rear), s .time), s .heard), s .balance),
     )
 
 -- ---- the brake of an opening
 
-pub at-opening-passes : (c : Consist) → isAtOpening c (atOpening c) ≡ true
+pub at-opening-passes : (c : Consist) (choice : Choice) → isAtOpening c (atOpening c choice) ≡ true
 unfolding isAtOpening
-at-opening-passes c = rw (eq-eqb (c .set) (c .set) refl)
+at-opening-passes c choice = rw (eq-eqb (c .set) (c .set) refl)
 
 -- of a session that has taken no sample
-pub is-at-opening : (c : Consist) (k : Brake) → isAtOpening c k ≡ true → k .sampled ≡ false → k ≡ atOpening c
+pub is-at-opening : (c : Consist) (k : Brake) → isAtOpening c k ≡ true → k .sampled ≡ false → k ≡ atOpening c (k .choice)
 unfolding isAtOpening
 is-at-opening c k h sampled =
     let all =
@@ -72,6 +75,7 @@ is-at-opening c k h sampled =
     ⊗ same (k .fall) 0
     ⊗ same (k .«last_front») 0
     ⊗ same (k .«last_rear») 0
-    ⊗ same (k .«last_time») 0 in
-    let ((((((((state, hold), a), b), equalization), fall), front), rear), time) = all .0 h in
-    brake-one k (atOpening c) (rw (state, hold, a, b, equalization, fall, front, rear, time, sampled))
+    ⊗ same (k .«last_time») 0
+    ⊗ same (heardNumber (k .heard)) 0 in
+    let (((((((((state, hold), a), b), equalization), fall), front), rear), time), heard) = all .0 h in
+    brake-one k (atOpening c (k .choice)) (rw (state, hold, a, b, equalization, fall, front, rear, time, heard, sampled))

@@ -1,5 +1,5 @@
 -- What is told of a brake tells the brake: no two are told alike. Assumes nothing.
-use mathlib.Core.Path.{_≡_, refl, sym, ap, ap₂, _∙_}
+use mathlib.Core.Path.{_≡_, refl, sym, ap, _∙_}
 use mathlib.Core.Bool.{Bool}
 use mathlib.Core.List.{List}
 use Prim.Native.Nat.{ℕ}
@@ -8,9 +8,13 @@ use lib.ListN.{getD}
 use Rattle.bits.proofs.Bit.{of-bit}
 use Rattle.brake.specs.declared.State.{State}
 use Rattle.brake.specs.declared.State.the-variants.{Charged, ApplyingService, HoldingService, ApplyingEmergency, HoldingEmergency, Charging}
+use Rattle.brake.specs.declared.Choice.{Choice}
+use Rattle.brake.specs.declared.Heard.{Heard}
 use Rattle.brake.specs.declared.Brake.{Brake}
 use Rattle.brake.specs.State.{stateNumber, stateOf}
+use Rattle.brake.specs.Rear.{choiceOf, heardOf}
 use Rattle.brake.specs.Brake.{brakeTold}
+use Rattle.brake.proofs.Rear.{choice-back, heard-back}
 
 -- ---- the state
 
@@ -28,8 +32,8 @@ state-one s t h = sym (state-back s) ∙ ap stateOf h ∙ state-back t
 
 -- ---- the brake
 
-abbrev brakeWith : State → List ℕ → Bool → Brake
-brakeWith state ns sampled = record {
+abbrev brakeWith : State → List ℕ → Bool → Choice → Heard → Brake
+brakeWith state ns sampled choice heard = record {
   state = state;
   hold = getD ns 1 0;
   a = getD ns 2 0;
@@ -40,14 +44,16 @@ brakeWith state ns sampled = record {
   «last_rear» = getD ns 7 0;
   «last_time» = getD ns 8 0;
   sampled = sampled;
+  choice = choice;
+  heard = heard;
 }
 
 brakeAt : List ℕ → Brake
-brakeAt ns = brakeWith (stateOf (getD ns 0 0)) ns (eqb (getD ns 9 0) 1)
+brakeAt ns = brakeWith (stateOf (getD ns 0 0)) ns (eqb (getD ns 9 0) 1) (choiceOf (getD ns 10 0)) (heardOf (getD ns 11 0))
 
 brake-back : (k : Brake) → brakeAt (brakeTold k) ≡ k
 unfolding brakeAt
-brake-back k = ap₂ (λ (s : State) (b : Bool). brakeWith s (brakeTold k) b) (state-back (k .state)) (of-bit (k .sampled))
+brake-back k = rw (state-back (k .state), of-bit (k .sampled), choice-back (k .choice), heard-back (k .heard))
 
 pub brake-one : (j k : Brake) → brakeTold j ≡ brakeTold k → j ≡ k
 brake-one j k h = sym (brake-back j) ∙ ap brakeAt h ∙ brake-back k

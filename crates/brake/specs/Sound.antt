@@ -7,6 +7,7 @@ use Rattle.consist.specs.declared.Consist.{Consist}
 use Rattle.brake.specs.declared.State.{State}
 use Rattle.brake.specs.declared.State.the-variants.{Charged, ApplyingService, HoldingService, ApplyingEmergency, HoldingEmergency, Charging}
 use Rattle.brake.specs.declared.Brake.{Brake}
+use Rattle.brake.specs.Rear.{heardNumber}
 
 -- ---- the greatest values
 
@@ -57,6 +58,7 @@ pub record Sound (c : Consist) (k : Brake) : Type 0 where
   pub front : k .«last_front» ≤ mostPressure
   pub rear : k .«last_rear» ≤ mostPressure
   pub time : k .«last_time» ≤ mostTime
+  pub heard : heardNumber (k .heard) ≤ mostTime + 1
   pub balance : Balance (k .state) (c .set) (k .a) (k .b) (k .equalization)
 
 unfoldable pub isSound : Consist → Brake → Bool
@@ -69,4 +71,5 @@ isSound c k =
     && leb (k .«last_front») mostPressure
     && leb (k .«last_rear») mostPressure
     && leb (k .«last_time») mostTime
+    && leb (heardNumber (k .heard)) (mostTime + 1)
     && isBalanced (k .state) (c .set) (k .a) (k .b) (k .equalization)

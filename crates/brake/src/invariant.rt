@@ -1,6 +1,7 @@
 // A test of the invariant, for any brake and any consist.
 use crate::Brake;
 use crate::State;
+use crate::heard_number;
 use consist::Consist;
 ghost use mathlib.Core.Path.{_≡_};
 ghost use Rattle.brake.specs.Sound.{isBalanced, isSound};
@@ -39,6 +40,7 @@ impl Brake {
         ensures { λ t. ⌜ t ≡ isSound c self ⌝ }
     {
         let state = self.state;
+        let heard = self.heard;
         (self.a <= c.set)
             & (self.b <= Brake::MOST_B)
             & (7 * self.equalization as u32 <= 6 * c.set as u32)
@@ -47,6 +49,7 @@ impl Brake {
             & (self.last_front <= Brake::MOST_PRESSURE)
             & (self.last_rear <= Brake::MOST_PRESSURE)
             & (self.last_time <= Brake::MOST_TIME)
+            & (heard_number(heard) <= Brake::MOST_TIME as u64 + 1)
             & is_balanced(state, c.set, self.a, self.b, self.equalization)
     }
 }

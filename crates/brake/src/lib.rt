@@ -4,6 +4,7 @@ mod invariant;
 use consist::Consist;
 ghost use mathlib.Core.Path.{_≡_};
 ghost use Rattle.brake.specs.State.{stateNumber, stateOf};
+ghost use Rattle.brake.specs.Rear.{choiceNumber, choiceOf, heardNumber, heardOf};
 ghost use Rattle.brake.specs.Brake.{atOpening, isAtOpening};
 ghost use Rattle.brake.specs.Equalization.{equalizationService};
 
@@ -14,6 +15,21 @@ pub enum State {
     ApplyingEmergency,
     HoldingEmergency,
     Charging,
+}
+
+// What a lost rear counts as, by the opening's choice.
+pub enum Choice {
+    // the last present value for 5 seconds, then front: the default
+    FiveSeconds,
+    // the last rear, for ever
+    Everlasting,
+}
+
+// When the rear was last present.
+pub enum Heard {
+    Never,
+    // seconds
+    At(u32),
 }
 
 // What is held from sample to sample, pressures in hundredths of a psi. The set pressure is the consist's.
@@ -34,6 +50,10 @@ pub struct Brake {
     pub last_time: u32,
     // whether a sample was yet accepted
     pub sampled: bool,
+    // of the opening: what a lost rear counts as
+    pub choice: Choice,
+    // when the rear was last present
+    pub heard: Heard,
 }
 
 // The state's number, as a decision carries it.
@@ -64,6 +84,46 @@ pub fn state_of(n: u64) -> State
     }
 }
 
+// The choice's number, 0 for the default.
+pub fn choice_number(choice: Choice) -> u64
+    ensures { λ n. ⌜ n ≡ choiceNumber choice ⌝ }
+{
+    match choice {
+        Choice::FiveSeconds => 0,
+        Choice::Everlasting => 1,
+    }
+}
+
+// The choice of a number: any but 0 asks for the everlasting value.
+pub fn choice_of(n: u64) -> Choice
+    ensures { λ r. ⌜ r ≡ choiceOf n ⌝ }
+{
+    match n {
+        0 => Choice::FiveSeconds,
+        _ => Choice::Everlasting,
+    }
+}
+
+// 0 for never, else one more than the time.
+pub fn heard_number(heard: Heard) -> u64
+    ensures { λ n. ⌜ n ≡ heardNumber heard ⌝ }
+{
+    match heard {
+        Heard::Never => 0,
+        Heard::At(time) => time as u64 + 1,
+    }
+}
+
+// When the rear was last present, by that number.
+pub fn heard_of(n: u32) -> Heard
+    ensures { λ r. ⌜ r ≡ heardOf n ⌝ }
+{
+    match n {
+        0 => Heard::Never,
+        _ => Heard::At(n - 1),
+    }
+}
+
 // Where a service application from A and B ends.
 pub fn equalization_service(a: u16, b: u16) -> u16
     ensures { λ r. ⌜ r ≡ equalizationService a b ⌝ }
@@ -85,8 +145,8 @@ impl Brake {
     pub const EMERGENCY_RATE: i64 = -1_500;
 
     // The brake of a new session.
-    pub fn at_opening(c: Consist) -> Self
-        ensures { λ r. ⌜ r ≡ atOpening c ⌝ }
+    pub fn at_opening(c: Consist, choice: Choice) -> Self
+        ensures { λ r. ⌜ r ≡ atOpening c choice ⌝ }
     {
         Self {
             state: State::Charged,
@@ -99,14 +159,17 @@ impl Brake {
             last_rear: 0,
             last_time: 0,
             sampled: false,
+            choice,
+            heard: Heard::Never,
         }
     }
 
-    // Whether what is held is what an opening gives, whether or not a sample was accepted.
+    // Whether what is held is what an opening gives, whatever its choice, whether or not a sample was accepted.
     pub fn is_at_opening(self, c: Consist) -> bool
         ensures { λ t. ⌜ t ≡ isAtOpening c self ⌝ }
     {
         let state = self.state;
+        let heard = self.heard;
         (state_number(state) == 0)
             & (self.hold == c.set)
             & (self.a == c.set)
@@ -116,5 +179,6 @@ impl Brake {
             & (self.last_front == 0)
             & (self.last_rear == 0)
             & (self.last_time == 0)
+            & (heard_number(heard) == 0)
     }
 }

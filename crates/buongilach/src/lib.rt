@@ -2,16 +2,28 @@
 // an answer is the refusal's number, 0 for none.
 pub mod records;
 
+use brake::Choice;
 ghost use mathlib.Core.Path.{_≡_};
+ghost use Rattle.brake.specs.declared.Choice.the-variants.{FiveSeconds};
+ghost use Rattle.brake.specs.Rear.{choiceOf};
 ghost use Rattle.lent.specs.Lent.{openBytes, sampleBytes, isOpenBytes};
 ghost use Rattle.buongilach.specs.Version.{version};
 
-// Opens a session anew with the consist: writes its record to the start of `session`.
+// Opens a session anew with the consist and the default choice: writes its record to the start of `session`.
 #[no_mangle]
 pub extern "C" fn buongilach_open(session: &mut [u8], consist: &[u8]) -> u8
-    ensures { λ r. ⌜ (r, now (session .exit)) ≡ openBytes (now (consist .entry)) (now (session .entry)) ⌝ }
+    ensures { λ r. ⌜ (r, now (session .exit)) ≡ openBytes (now (consist .entry)) (now (session .entry)) FiveSeconds ⌝ }
 {
-    lent::open(session, consist)
+    lent::open(session, consist, Choice::FiveSeconds)
+}
+
+// The same with a choice: any `everlasting` but 0 says that a lost rear counts as the last one for ever.
+#[no_mangle]
+pub extern "C" fn buongilach_open_with(session: &mut [u8], consist: &[u8], everlasting: u32) -> u8
+    ensures { λ r. ⌜ (r, now (session .exit)) ≡ openBytes (now (consist .entry)) (now (session .entry)) (choiceOf everlasting) ⌝ }
+{
+    let choice = brake::choice_of(everlasting as u64);
+    lent::open(session, consist, choice)
 }
 
 // Judges a sample, with the profile and the targets lent for it, moves the session on and writes the two decisions to the start of `decision`.
@@ -37,7 +49,7 @@ pub extern "C" fn buongilach_is_open(session: &[u8]) -> bool
 }
 
 // Three digits each for minor and patch.
-const VERSION: u32 = 6_000_000;
+const VERSION: u32 = 7_000_000;
 
 // The version of this library.
 #[no_mangle]

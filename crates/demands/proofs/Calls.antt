@@ -86,6 +86,7 @@ calls = record {
   tells-sample = plain (λ M. tells.sample.Met.met) (λ l a r x p. p);
   tells-decision = call (λ M. tells.decision.Met.met) (λ l a r x p. p);
   buongilach-open = call (λ M. library.buongilach_open.Met.met) (λ l a r x p. p);
+  buongilach-open-with = call (λ M. library.buongilach_open_with.Met.met) (λ l a r x p. p);
   buongilach-sample = call (λ M. library.buongilach_sample.Met.met) (λ l a r x p. ap {B = ℕ × (List ℕ × List ℕ)} (λ ((n, x, d) : Sampled). (n, (x, d))) p);
   buongilach-is-open = plain (λ M. library.buongilach_is_open.Met.met) (λ l a r x p. p);
   buongilach-write-consist = call (λ M. records.buongilach_write_consist.Met.met) (λ l a r x p. p);

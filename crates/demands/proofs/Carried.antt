@@ -24,12 +24,12 @@ use Rattle.demands.specs.Program.{byValue}
 -- what is accepted hands back an open session, and what is refused the one that it had
 pub accepted-open : (x : Session) (k : Call) → call ours x k .told ≡ Accepted → isOpen (call ours x k .state) ≡ true
 unfolding OpensOpen StaysOpen
-accepted-open x (opening s) = opens-open x s
+accepted-open x (opening s choice) = opens-open x s choice
 accepted-open x (sampling l) = stays-open x (l .sample) (l .profile) (l .targets) (l .out)
 
 pub refused-same : (x : Session) (k : Call) (r : Refusal) → call ours x k .told ≡ Refused r → call ours x k .state ≡ x
 unfolding OpenUnchanged SampleUnchanged
-refused-same x (opening s) = open-unchanged x s
+refused-same x (opening s choice) = open-unchanged x s choice
 refused-same x (sampling l) = sample-unchanged x (l .sample) (l .profile) (l .targets) (l .out)
 
 -- a sample call by its verdict

@@ -33,6 +33,10 @@ use Rattle.blocks.proofs.Sums.{length-most, weight-most}
 use Rattle.consist.specs.Consist.{consistIn, tooShort, rules, brokenBehind, soundBlocks, readRules, readConsist, answer}
 use Rattle.consist.proofs.Sound as consist-sound
 use Rattle.brake.proofs.StateNumbers.{number-most}
+use Rattle.brake.specs.declared.Choice.{Choice}
+use Rattle.brake.specs.declared.Choice.the-variants.{FiveSeconds, Everlasting}
+use Rattle.brake.specs.Rear.{choiceOf}
+use Rattle.brake.proofs.Rear.{choice-most}
 use Rattle.session.specs.declared.Session.{Session}
 use Rattle.session.specs.declared.Answer.{Answer}
 use Rattle.session.specs.Session.{isOpen, noneOpen, sessionTold, callTold}
@@ -89,7 +93,8 @@ open-fits x h =
     let o = opened x h in
     let k = o .brake in (
       omega (arith, o .consist .ranged),
-      omega (arith, number-most (x .brake .state), bit-fits (x .brake .sampled), k .a, k .b, k .equalization, k .fall, k .hold, k .front, k .rear, k .time),
+      omega (arith, number-most (x .brake .state), bit-fits (x .brake .sampled), choice-most (x .brake .choice), k .a, k .b, k .equalization, k .fall, k .hold, k .front, k .rear, k .time, k .heard),
+      omega (arith, k .heard),
       omega (arith, o .cause),
       omega (arith, o .emergency),
       blocks-fit (x .consist .blocks) (x .consist .length) (x .consist .weight) (omega (arith, o .consist .ranged)) (omega (arith, o .consist .ranged))
@@ -121,15 +126,15 @@ module _ (m : Machine Session Verdict) (met : program.Meets m) where
   unfolding none
   program-begins =
       let zeros : Words 16 (none .lengths) = words-of 16 (none .lengths) (λ k. zero-at k 64) in
-      let fits : FitsWords noneOpen = (omega arith, omega arith, omega arith, omega arith, record { count = omega arith; lengths-places = refl; lengths = zeros; weights-places = refl; weights = zeros }) in
+      let fits : FitsWords noneOpen = (omega arith, omega arith, omega arith, omega arith, omega arith, record { count = omega arith; lengths-places = refl; lengths = zeros; weights-places = refl; weights = zeros }) in
       let e = session-one (m .none) noneOpen (met .none tt tt tt) in
       (subst FitsWords (sym e) fits, e)
 
   program-same : (x : Session) → FitsWords x → (k : Call) → Lends k → call m x k ≡ call ours x k
   unfolding lent
-  program-same x f (opening s) b =
+  program-same x f (opening s choice) b =
       ap {B = Reply Session Verdict} (λ (a : Answer). record { told = a .verdict; state = a .session; out = [] })
-      (answer-one _ (openOf x s) (met .opens ([], tt) (x, (lent s, tt)) (x, (lent s, tt)) f b))
+      (answer-one _ (openOf x s choice) (met .opens ([], tt) (x, (lent s, (choice, tt))) (x, (lent s, (choice, tt))) f b))
   program-same x f (sampling l) b =
       let r = m .samples x l in
       ap {B = Reply Session Verdict} (λ (a : Answer × List ℕ). record { told = a .0 .verdict; state = a .0 .session; out = a .1 })
@@ -172,7 +177,8 @@ bytes-lawful = record {
 pub library-meets : (z : List ℕ) → Unopened inBytes z → library.Meets (ourLibrary z)
 library-meets z u = record {
   none = u;
-  opens = λ κs a x f s h. ap {B = ℕ × List ℕ} (λ (b : List ℕ). (openBytes (now (a .1 .0)) (now (a .0)) .0, b)) h;
+  opens = λ κs a x f s h. ap {B = ℕ × List ℕ} (λ (b : List ℕ). (openBytes (now (a .1 .0)) (now (a .0)) FiveSeconds .0, b)) h;
+  opens-with = λ κs a x f s n h. ap {B = ℕ × List ℕ} (λ (b : List ℕ). (openBytes (now (a .1 .0)) (now (a .0)) (choiceOf (a .1 .1 .0)) .0, b)) h;
   samples = λ κs a x f s h g. ap₂ {C = Sampled} (λ (b out : List ℕ). (ourLibrary z .samples (now (a .0)) (library.lentTo κs a) .told, b, out)) h g;
 }
 
@@ -180,9 +186,12 @@ module _ (m : Machine (List ℕ) ℕ) (met : library.Meets m) where
   -- it replies as ours, however short the session's bytes
   library-same : (z : List ℕ) → Slice z → (k : Call) → Lends k → call m z k ≡ call (ourLibrary z) z k
   unfolding lent
-  library-same z f (opening s) b =
+  library-same z f (opening s FiveSeconds) b =
       ap {B = Reply (List ℕ) ℕ} (λ (r : ℕ × List ℕ). record { told = r .0; state = r .1; out = [] })
-      (met .opens ([], ([], tt)) (lent z, (lent s, tt)) (lent (m .opens z s .1), (lent s, tt)) f b refl)
+      (met .opens ([], ([], tt)) (lent z, (lent s, tt)) (lent (m .opens z s FiveSeconds .1), (lent s, tt)) f b refl)
+  library-same z f (opening s Everlasting) b =
+      ap {B = Reply (List ℕ) ℕ} (λ (r : ℕ × List ℕ). record { told = r .0; state = r .1; out = [] })
+      (met .opens-with ([], ([], tt)) (lent z, (lent s, (1, tt))) (lent (m .opens z s Everlasting .1), (lent s, (1, tt))) f b (omega arith) refl)
   library-same z f (sampling l) b =
       let r = m .samples z l in
       ap {B = Reply (List ℕ) ℕ} (λ (r : Sampled). record { told = r .0; state = r .1; out = r .2 })
@@ -204,12 +213,12 @@ module _ (z : List ℕ) where
       (le-ltb (length z) most room)
       ∙ sym (in-order (readRules s) tt)
 
-  opens-so : (x : Session) (v : Verdict) (s : List ℕ) →
-      let r = written v (bufferOf (openedWith (consistIn s))) z in
+  opens-so : (x : Session) (v : Verdict) (s : List ℕ) (choice : Choice) →
+      let r = written v (bufferOf (openedWith (consistIn s) choice)) z in
       _≡_ {A = Reply (List ℕ) ℕ} (record { told = numberOfVerdict (r .0); state = r .1; out = [] })
-      (record { told = numberOfVerdict v; state = kept v (inBytes .put z (openedBy x (answer v (consistIn s)) .session)) z; out = [] })
-  opens-so x Accepted s = ap (λ (b : List ℕ). record { told = 0; state = b; out = [] }) (left Accepted (openedWith (consistIn s)))
-  opens-so x (Refused r) s = refl
+      (record { told = numberOfVerdict v; state = kept v (inBytes .put z (openedBy x (answer v (consistIn s)) choice .session)) z; out = [] })
+  opens-so x Accepted s choice = ap (λ (b : List ℕ). record { told = 0; state = b; out = [] }) (left Accepted (openedWith (consistIn s) choice))
+  opens-so x (Refused r) s choice = refl
 
   -- what a sample call leaves, by what the record that the bytes begin with is read as
   module _ (l : Lent) where
@@ -235,11 +244,11 @@ module _ (z : List ℕ) where
 
   ours-does : most ≤ length z → (k : Call) → call (ourLibrary z) z k ≡ carry inBytes z (call ours (inBytes .session z) k)
   unfolding openBytes openOf readConsist
-  ours-does room (opening s) =
+  ours-does room (opening s choice) =
       let v = lowest (readRules s) in
-      ap {B = Reply (List ℕ) ℕ} (λ (v : Verdict). let r = written v (bufferOf (openedWith (consistIn s))) z in record { told = numberOfVerdict (r .0); state = r .1; out = [] })
+      ap {B = Reply (List ℕ) ℕ} (λ (v : Verdict). let r = written v (bufferOf (openedWith (consistIn s) choice)) z in record { told = numberOfVerdict (r .0); state = r .1; out = [] })
       (open-verdict room s)
-      ∙ opens-so (inBytes .session z) v s
+      ∙ opens-so (inBytes .session z) v s choice
   ours-does room (sampling l) = samples-so l (noSession (recordAt z)) refl
 
 pub library-does : (m : Machine (List ℕ) ℕ) → library.Meets m → Does inBytes m

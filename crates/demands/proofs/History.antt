@@ -11,7 +11,6 @@ use Rattle.refusal.specs.Written.{written}
 use Rattle.refusal.specs.declared.Verdict.{Verdict}
 use Rattle.refusal.specs.declared.Verdict.the-variants.{Accepted, Refused}
 use Rattle.refusal.proofs.Order.{passed}
-use Rattle.consist.specs.declared.Consist.{Consist}
 use Rattle.consist.specs.Consist.{consistIn, readRules, readConsist, answer}
 use Rattle.sample.specs.declared.Sample.{Sample}
 use Rattle.decision.specs.Decision.{bothBytes}
@@ -20,6 +19,7 @@ use Rattle.judge.specs.Emergency.{emergencyStop, emergencyCallOf}
 use Rattle.prediction.specs.Prediction.{behind}
 use Rattle.update.specs.Rules.{updateOf}
 use Rattle.admission.specs.Table.{wrongTime}
+use Rattle.brake.specs.declared.Choice.{Choice}
 use Rattle.session.specs.declared.Session.{Session}
 use Rattle.session.specs.declared.Answer.{Answer}
 use Rattle.session.specs.Session.{isOpen}
@@ -28,7 +28,7 @@ use Rattle.sampling.specs.Sample.{sampleIn, prediction, causeAfter, emergencyAf
 use Rattle.sampling.specs.Laws.{Lent}
 use Rattle.sampling.proofs.Laws.{standing-stays}
 use Rattle.demands.specs.Machine.{Call, opening, sampling, Reply, call, ours}
-use Rattle.demands.specs.History.{brakes, callsIn, firstCall, causeIn, emergencyAt, emergencyCallsIn, emergencyIn, stopAt, decisionAt, wrongTimeAfter, rulesAt, Standing, nothing, since, verdictAt, next, outAt, sessionAt}
+use Rattle.demands.specs.History.{Begun, brakes, callsIn, firstCall, causeIn, emergencyAt, emergencyCallsIn, emergencyIn, stopAt, decisionAt, wrongTimeAfter, rulesAt, Standing, nothing, since, verdictAt, next, outAt, sessionAt}
 use Rattle.demands.specs.Demand2.{CauseStays}
 use Rattle.demands.proofs.Carried.{accepted-open, sampled, sampled-is, none-refuses}
 
@@ -59,18 +59,22 @@ abbrev pub Open : Standing → Type 0
 Open nothing = Unit {0}
 Open (since c h) = isOpen (sessionAt (since c h)) ≡ true
 
-opened-is : (st : Standing) (s : List ℕ) (v : Verdict) →
-    openedBy (sessionAt st) (answer v (consistIn s)) ≡ record { session = sessionAt (kept v (since (consistIn s) []) st); verdict = v }
-unfolding brakes callsIn emergencyCallsIn firstCall
-opened-is st s Accepted = refl
-opened-is st s (Refused r) = refl
+-- a session that these bytes and this choice open
+abbrev begun : List ℕ → Choice → Begun
+begun s choice = record { consist = consistIn s; choice = choice }
 
-time-is : (c : Consist) (h : List Lent) (m : Sample) → wrongTime (sessionAt (since c h) .brake) m ≡ wrongTimeAfter h m
+opened-is : (st : Standing) (s : List ℕ) (choice : Choice) (v : Verdict) →
+    openedBy (sessionAt st) (answer v (consistIn s)) choice ≡ record { session = sessionAt (kept v (since (begun s choice) []) st); verdict = v }
+unfolding brakes callsIn emergencyCallsIn firstCall
+opened-is st s choice Accepted = refl
+opened-is st s choice (Refused r) = refl
+
+time-is : (c : Begun) (h : List Lent) (m : Sample) → wrongTime (sessionAt (since c h) .brake) m ≡ wrongTimeAfter h m
 unfolding wrongTime brakes updateOf
 time-is c [] m = refl
 time-is c (l ∷ h) m = refl
 
-module _ (c : Consist) (h : List Lent) (l : Lent) where
+module _ (c : Begun) (h : List Lent) (l : Lent) where
   abbrev x : Session
   x = sessionAt (since c h)
 
@@ -112,14 +116,14 @@ module _ (c : Consist) (h : List Lent) (l : Lent) where
 
 pub reply-is : (st : Standing) → Open st → (k : Call) → call ours (sessionAt st) k ≡ record { told = verdictAt st k; state = sessionAt (next st k); out = outAt st k }
 unfolding openOf readConsist
-reply-is st o (opening s) =
-    ap {B = Reply Session Verdict} (λ (a : Answer). record { told = a .verdict; state = a .session; out = [] }) (opened-is st s (lowest (readRules s)))
+reply-is st o (opening s choice) =
+    ap {B = Reply Session Verdict} (λ (a : Answer). record { told = a .verdict; state = a .session; out = [] }) (opened-is st s choice (lowest (readRules s)))
 reply-is nothing o (sampling l) = none-refuses l
 reply-is (since c h) o (sampling l) =
     sampled-is (sessionAt (since c h)) l (lowest (rulesAt c h l)) (verdict-is c h l o) ∙ answer-is c h l (lowest (rulesAt c h l))
 
 -- what stands after a call is open
-settles : (v : Verdict) (st : Standing) (c : Consist) (h : List Lent) → Open st → (v ≡ Accepted → isOpen (sessionAt (kept v (since c h) st)) ≡ true)
+settles : (v : Verdict) (st : Standing) (c : Begun) (h : List Lent) → Open st → (v ≡ Accepted → isOpen (sessionAt (kept v (since c h) st)) ≡ true)
     → Open (kept v (since c h) st)
 settles Accepted st c h o f = f refl
 settles (Refused r) st c h o f = o
@@ -128,6 +132,6 @@ stays : (st : Standing) → Open st → (k : Call) → verdictAt st k ≡ Accept
 stays st o k = subst (λ (r : Reply Session Verdict). r .told ≡ Accepted → isOpen (r .state) ≡ true) (reply-is st o k) (accepted-open (sessionAt st) k)
 
 pub next-open : (st : Standing) → Open st → (k : Call) → Open (next st k)
-next-open st o (opening s) = settles (lowest (readRules s)) st (consistIn s) [] o (stays st o (opening s))
+next-open st o (opening s choice) = settles (lowest (readRules s)) st (begun s choice) [] o (stays st o (opening s choice))
 next-open nothing o (sampling l) = tt
 next-open (since c h) o (sampling l) = settles (lowest (rulesAt c h l)) (since c h) c (l ∷ h) o (stays (since c h) o (sampling l))

@@ -12,7 +12,6 @@ use Rattle.refusal.specs.declared.Verdict.{Verdict}
 use Rattle.refusal.specs.declared.Verdict.the-variants.{Accepted, Refused}
 use Rattle.refusal.specs.Steps.{kept}
 use Rattle.refusal.proofs.Order.{passed, append-accepted, append-passed}
-use Rattle.consist.specs.declared.Consist.{Consist}
 use Rattle.consist.specs.Consist.{consistIn, readRules}
 use Rattle.targets.specs.Targets.{most, speedsIn}
 use Rattle.decision.specs.declared.Decision.{Decision}
@@ -33,7 +32,7 @@ use Rattle.sampling.proofs.Admitted.{in-range, emergency-in-range, ready}
 use Rattle.sampling.proofs.Laws.{standing-stays, cause-stands}
 use Rattle.demands.specs.Machine.{sampling, call, ours, recordOf, Decides, Call, opening, Lends, LendsEach, Reply, Machine, replies, after, Holding, Holds, Unopened, carry, Does, Accepts}
 use Rattle.demands.specs.Program.{byValue}
-use Rattle.demands.specs.History.{decisionAt, rulesAt, Standing, nothing, since, verdictAt, next, outAt, sessionAt, standingAfter, paperFrom}
+use Rattle.demands.specs.History.{Begun, decisionAt, rulesAt, Standing, nothing, since, verdictAt, next, outAt, sessionAt, standingAfter, paperFrom}
 use Rattle.demands.specs.Demand2.{telling, stateAt, NotOpenedAnew, Demand-2}
 use Rattle.demands.specs.Demand3.{Demand-3}
 use Rattle.demands.proofs.Carried.{accepted-open, refused-same, sampled, sampled-is, Lawful, next-holds, decides}
@@ -117,14 +116,14 @@ module _ {S T : Type 0} (h : Holding S T) (w : Lawful h) (m : Machine S T) (does
   holds nothing o = u
   holds (since c l) o = (w .fits (m .none) (sessionAt (since c l)) (u .0) o, w .reads (m .none) (sessionAt (since c l)) o)
 
-  settled : (v : Verdict) (st : Standing) (c : Consist) (l : List Lent) →
+  settled : (v : Verdict) (st : Standing) (c : Begun) (l : List Lent) →
       kept v (h .put (at st) (sessionAt (kept v (since c l) st))) (at st) ≡ at (kept v (since c l) st)
   settled Accepted nothing c l = refl
   settled Accepted (since b k) c l = w .again (m .none) (sessionAt (since b k)) (sessionAt (since c l))
   settled (Refused r) st c l = refl
 
   left : (st : Standing) (k : Call) → kept (verdictAt st k) (h .put (at st) (sessionAt (next st k))) (at st) ≡ at (next st k)
-  left st (opening s) = settled (lowest (readRules s)) st (consistIn s) []
+  left st (opening s choice) = settled (lowest (readRules s)) st (record { consist = consistIn s; choice = choice }) []
   left nothing (sampling l) = refl
   left (since c past) (sampling l) = settled (lowest (rulesAt c past l)) (since c past) c (l ∷ past)
 
@@ -147,7 +146,7 @@ module _ {S T : Type 0} (h : Holding S T) (w : Lawful h) (m : Machine S T) (does
       let told = ap {B = T × List ℕ} (λ (r : Reply S T). (r .told, r .out)) e in
       (ap₂ _∷_ told (ap (λ (r : Reply S T). replies m (r .state) ks) e ∙ rest .0), ap (λ (r : Reply S T). after m (r .state) ks) e ∙ rest .1, rest .2)
 
-  read-at : (e : Bool) (c : Consist) (past : List Lent) → Open (since c past) → (l : Lent) → Lends (sampling l) →
+  read-at : (e : Bool) (c : Begun) (past : List Lent) → Open (since c past) → (l : Lent) → Lends (sampling l) →
       let r = call m (at (since c past)) (sampling l) in
       Accepts h r → Decides h e r (decisionAt e c past l)
   read-at e c past o l b =
@@ -165,11 +164,11 @@ module _ {S T : Type 0} (h : Holding S T) (w : Lawful h) (m : Machine S T) (does
     call-stands : (z : S) (x : Session) → Holds h z x → (k : Call) → Lends k → (ks : List Call) → NotOpenedAnew h m z (k ∷ ks) → 0 < causeHeld e x
         → (causeHeld e (call ours x k .state) ≡ causeHeld e x) × NotOpenedAnew h m (call m z k .state) ks
     unfolding CauseStands afterSamples
-    call-stands z x o (opening s) b ks n some = (by (call ours x (opening s) .told) refl, n .1)
+    call-stands z x o (opening s choice) b ks n some = (by (call ours x (opening s choice) .told) refl, n .1)
       where
-        by : (v : Verdict) → call ours x (opening s) .told ≡ v → causeHeld e (call ours x (opening s) .state) ≡ causeHeld e x
-        by Accepted g = absurd (n .0 (ap (λ (r : Reply S T). r .told) (does z x o (opening s) b) ∙ ap (h .tell) g))
-        by (Refused r) g = ap (causeHeld e) (refused-same x (opening s) r g)
+        by : (v : Verdict) → call ours x (opening s choice) .told ≡ v → causeHeld e (call ours x (opening s choice) .state) ≡ causeHeld e x
+        by Accepted g = absurd (n .0 (ap (λ (r : Reply S T). r .told) (does z x o (opening s choice) b) ∙ ap (h .tell) g))
+        by (Refused r) g = ap (causeHeld e) (refused-same x (opening s choice) r g)
     call-stands z x o (sampling l) b ks n some = (cause-stands e x (l ∷ []) some, n)
 
     calls-stand : (z : S) (x : Session) → Holds h z x → (ks : List Call) → LendsEach ks → NotOpenedAnew h m z ks → 0 < causeHeld e x

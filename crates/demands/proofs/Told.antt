@@ -3,6 +3,7 @@ use Rattle.refusal.proofs.Exactly.{number-tells}
 use Rattle.refusal.proofs.Numbers.{verdict-one, told-one}
 use Rattle.hundredths.proofs.Told.{reading-one}
 use Rattle.sample.proofs.Told as sample
+use Rattle.brake.proofs.Rear.{choice-one, heard-one}
 use Rattle.brake.proofs.Told.{state-one, brake-one}
 use Rattle.session.proofs.Told as session
 use Rattle.held.proofs.Answers.{read-tells}
@@ -16,6 +17,8 @@ told-apart = record {
   rear = sample.rear-one;
   pressure = sample.pressure-one;
   state = state-one;
+  choice = choice-one;
+  heard = heard-one;
   raw = sample.raw-one;
   sample = sample.sample-one;
   brake = brake-one;

@@ -23,6 +23,7 @@ use Rattle.step.specs.Curve.{penaltyCurve}
 use Rattle.walk.proofs.predict.{signature}
 use Rattle.judge.specs.Approach.{Approach, predictionOf}
 use Rattle.prediction.proofs.Ready.{walkable}
+use Rattle.brake.specs.declared.Choice.the-variants.{FiveSeconds}
 use Rattle.session.specs.declared.Session.{Session}
 use Rattle.session.specs.Session.{noneOpen}
 use Rattle.sampling.specs.Sample.{sampleIn, brakeAfter, approach}
@@ -62,7 +63,7 @@ nth (suc n) = record { sample = case.sample 1 63 128; profile = case.profile; ta
 
 -- an opening, the first sample, and the first or the second one
 abbrev run : ℕ → List Call
-run n = opening case.consist ∷ sampling (nth 0) ∷ sampling (nth n) ∷ []
+run n = opening case.consist FiveSeconds ∷ sampling (nth 0) ∷ sampling (nth n) ∷ []
 
 opening-lent : Slice case.consist
 opening-lent = slice case.consist refl
@@ -75,7 +76,7 @@ lent (suc n) = (slice (nth 1 .sample) refl, slice (nth 1 .profile) refl, slice (
 
 -- the session before the second sample, and the approach that this makes
 abbrev standing : Session
-standing = call ours (call ours noneOpen (opening case.consist) .state) (sampling (nth 0)) .state
+standing = call ours (call ours noneOpen (opening case.consist FiveSeconds) .state) (sampling (nth 0)) .state
 
 abbrev second : Session → Approach
 second x = approach x (sampleIn (nth 1 .sample)) (nth 1 .profile)
@@ -108,7 +109,7 @@ computed = record { honest = refl; again = refl; read = refl; accepted = refl; s
 module _ {S T : Type 0} (h : Holding S T) (w : Lawful h) (m : Machine S T) (does : Does h m) (u : Unopened h (m .none)) (demand-2 : Demand-2 h m) where
   -- before the first sample, and after it
   abbrev opened : S
-  opened = call m (m .none) (opening case.consist) .state
+  opened = call m (m .none) (opening case.consist FiveSeconds) .state
 
   abbrev one : Reply S T
   one = call m opened (sampling (nth 0))
@@ -118,13 +119,13 @@ module _ {S T : Type 0} (h : Holding S T) (w : Lawful h) (m : Machine S T) (does
   two n = call m (one .state) (sampling (nth n))
 
   replied : (n : ℕ) (rs : List (Verdict × List ℕ)) → paperFrom nothing (run n) ≡ rs
-      → (call m (m .none) (opening case.consist) .told, []) ∷ (one .told, one .out) ∷ (two n .told, two n .out) ∷ [] ≡ map (telling h) rs
+      → (call m (m .none) (opening case.consist FiveSeconds) .told, []) ∷ (one .told, one .out) ∷ (two n .told, two n .out) ∷ [] ≡ map (telling h) rs
   unfolding replies
   replied n rs e = demand-2 .told (run n) (opening-lent, (lent 0, (lent n, tt))) ∙ ap (map (telling h)) e
 
   -- the reply to a call of the honest run, by its place
   honest-at : {A : Type 0} (f : T × List ℕ → A) (i : ℕ) →
-      f (getD ((call m (m .none) (opening case.consist) .told, []) ∷ (one .told, one .out) ∷ (two 1 .told, two 1 .out) ∷ []) i (h .tell Accepted, []))
+      f (getD ((call m (m .none) (opening case.consist FiveSeconds) .told, []) ∷ (one .told, one .out) ∷ (two 1 .told, two 1 .out) ∷ []) i (h .tell Accepted, []))
       ≡ f (getD (map (telling h) ((Accepted, []) ∷ (Accepted, firstOut) ∷ (Accepted, secondOut) ∷ [])) i (h .tell Accepted, []))
   honest-at f i = ap (λ (l : List (T × List ℕ)). f (getD l i (h .tell Accepted, []))) (replied 1 _ (computed .honest))
 
@@ -134,8 +135,8 @@ module _ {S T : Type 0} (h : Holding S T) (w : Lawful h) (m : Machine S T) (does
   pub not-useless : NotUseless h m
   unfolding after
   not-useless =
-      let one-before : List Call = opening case.consist ∷ [] in
-      let two-before : List Call = opening case.consist ∷ sampling (nth 0) ∷ [] in
+      let one-before : List Call = opening case.consist FiveSeconds ∷ [] in
+      let two-before : List Call = opening case.consist FiveSeconds ∷ sampling (nth 0) ∷ [] in
       let bs : LendsEach one-before = (opening-lent, tt) in
       let bs′ : LendsEach two-before = (opening-lent, (lent 0, tt)) in
       let one-accepted : Accepts h one = honest-at (λ r. r .0) 1 in
@@ -146,7 +147,7 @@ module _ {S T : Type 0} (h : Holding S T) (w : Lawful h) (m : Machine S T) (does
       sym (honest-at (λ r. getD (drop 4 (take size (r .1))) 0 0) 2) ∙ ap (λ (l : List ℕ). getD l 0 0) e ∙ honest-at (λ r. getD (drop 4 (take size (r .1))) 0 0) 1 in
       omega arith in
       record {
-        refuses-openings = λ k. not-both (call m (m .none) (opening case.consist)) (k [] case.consist tt opening-lent) (honest-at (λ r. r .0) 0);
+        refuses-openings = λ k. not-both (call m (m .none) (opening case.consist FiveSeconds)) (k [] case.consist FiveSeconds tt opening-lent) (honest-at (λ r. r .0) 0);
         refuses-samples = λ k. not-both one (k one-before (nth 0) bs (lent 0)) one-accepted;
         constant = λ b k. otherwise (k two-before (nth 1) bs′ (lent 1) two-accepted ∙ sym (k one-before (nth 0) bs (lent 0) one-accepted));
         session-untouched = λ k.

@@ -11,6 +11,8 @@ use Rattle.profile.specs.Profile.{judgeProfile, segmentAt, writeProfile}
 use Rattle.targets.specs.Targets.{judgeTargets, targetAt, writeTargets}
 use Rattle.sample.specs.Sample.{layOut, judgeSample, readSample, writeSample}
 use Rattle.decision.specs.Decision.{readDecision, writeDecision}
+use Rattle.brake.specs.declared.Choice.the-variants.{FiveSeconds}
+use Rattle.brake.specs.Rear.{choiceOf}
 use Rattle.session.specs.Session.{noneOpen, isOpen}
 use Rattle.session.specs.Open.{openOf}
 use Rattle.sampling.specs.Sample.{sampleCall}
@@ -106,7 +108,7 @@ pub record Calls : Type 2 where
   pub session-is-open : PlainCall session.is_open.Statement.statement session.is_open.Reads.Asked session.is_open.Reads.Post
       (λ l (x, _). isOpen x)
   pub session-open : PlainCall session.open.Statement.statement session.open.Reads.Asked session.open.Reads.Post
-      (λ l (x, (s, _)). openOf x (now s))
+      (λ l (x, (s, (choice, _))). openOf x (now s) choice)
   pub session-sample : PublicCall sampling.sample.Statement.statement sampling.sample.Reads.Asked sampling.sample.Reads.Post
       (λ l (_, (_, (_, (_, (out, _))))). now out)
       (λ l (x, (s, (p, (t, (out, _))))). sampleCall x (now s) (now p) (now t) (now out))
@@ -119,7 +121,7 @@ pub record Calls : Type 2 where
       (λ l (_, (out, _)). now out) (λ l (x, (out, _)). writeSession x (now out))
   -- the session in lent bytes: an opening, a sample, the test
   pub lent-open : PublicCall lent.open.Statement.statement lent.open.Reads.Asked lent.open.Reads.Post
-      (λ l (session, _). now session) (λ l (session, (consist, _)). openBytes (now consist) (now session))
+      (λ l (session, _). now session) (λ l (session, (consist, (choice, _))). openBytes (now consist) (now session) choice)
   pub lent-sample : PublicCall lent.sample.Statement.statement lent.sample.Reads.Asked lent.sample.Reads.Post
       {Lent = List ℕ × List ℕ} (λ l (session, (_, (_, (_, (decision, _))))). (now session, now decision))
       (λ l (session, (s, (p, (t, (decision, _))))). let (n, x, d) = sampleBytes (now session) (now s) (now p) (now t) (now decision) in (n, (x, d)))
@@ -156,7 +158,10 @@ pub record Calls : Type 2 where
       (λ l (_, (numbers, _)). now numbers) (λ l (s, (numbers, _)). decisionRead (now s) (now numbers))
   -- for C, each as above: the session in lent bytes
   pub buongilach-open : PublicCall library.buongilach_open.Statement.statement library.buongilach_open.Reads.Asked library.buongilach_open.Reads.Post
-      (λ l (session, _). now session) (λ l (session, (consist, _)). openBytes (now consist) (now session))
+      (λ l (session, _). now session) (λ l (session, (consist, _)). openBytes (now consist) (now session) FiveSeconds)
+  pub buongilach-open-with :
+      PublicCall library.buongilach_open_with.Statement.statement library.buongilach_open_with.Reads.Asked library.buongilach_open_with.Reads.Post
+      (λ l (session, _). now session) (λ l (session, (consist, (everlasting, _))). openBytes (now consist) (now session) (choiceOf everlasting))
   pub buongilach-sample : PublicCall library.buongilach_sample.Statement.statement library.buongilach_sample.Reads.Asked library.buongilach_sample.Reads.Post
       {Lent = List ℕ × List ℕ} (λ l (session, (_, (_, (_, (decision, _))))). (now session, now decision))
       (λ l (session, (s, (p, (t, (decision, _))))). let (n, x, d) = sampleBytes (now session) (now s) (now p) (now t) (now decision) in (n, (x, d)))

@@ -3,6 +3,7 @@ use mathlib.Core.List.{List}
 use Prim.Native.Nat.{ℕ}
 use lib.ListN.{replicate}
 use Rattle.decision.specs.Decision.{bothSize}
+use Rattle.brake.specs.declared.Choice.the-variants.{FiveSeconds}
 use Rattle.session.specs.declared.Session.{Session}
 use Rattle.session.specs.Session.{noneOpen}
 use Rattle.session.specs.Open.{openOf}
@@ -14,4 +15,4 @@ out = replicate bothSize 0
 
 -- after the sample 0, 5,000, 0.0
 abbrev pub standing : Session
-standing = sampleCall (openOf noneOpen consist .session) (sample 0 0 0) profile targets out .0 .session
+standing = sampleCall (openOf noneOpen consist FiveSeconds .session) (sample 0 0 0) profile targets out .0 .session

@@ -23,6 +23,7 @@ use Rattle.sample.specs.declared.RawSample.{RawSample}
 use Rattle.sample.specs.Sample as sample
 use Rattle.decision.specs.declared.Decision.{Decision}
 use Rattle.decision.specs.Decision as decision
+use Rattle.brake.specs.declared.Choice.{Choice}
 use Rattle.session.specs.declared.Session.{Session}
 use Rattle.session.specs.Session.{noneOpen}
 use Rattle.session.specs.Open.{openOf}
@@ -97,8 +98,8 @@ pub record Demand-1 : Type 2 where
   pub sample-write : (raw : RawSample) (out : List ℕ) → Refuses (4 ∷ 8 ∷ 12 ∷ []) (sample.writeRules raw out) out (sample.writeSample raw out)
   pub decision-read : (s : List ℕ) → Refuses (2 ∷ 3 ∷ 4 ∷ []) (decision.readRules s) decision.none (decision.readDecision s)
   pub decision-write : (d : Decision) (out : List ℕ) → Refuses (4 ∷ 12 ∷ []) (decision.writeRules d out) out (decision.writeDecision d out)
-  pub session-open : (x : Session) (s : List ℕ)
-      → Refuses (2 ∷ 4 ∷ 5 ∷ 13 ∷ []) (consist.readRules s) x (openOf x s .verdict, openOf x s .session)
+  pub session-open : (x : Session) (s : List ℕ) (choice : Choice)
+      → Refuses (2 ∷ 4 ∷ 5 ∷ 13 ∷ []) (consist.readRules s) x (openOf x s choice .verdict, openOf x s choice .session)
   pub session-sample : (x : Session) (s p t out : List ℕ) →
       let (a, bytes) = sampleCall x s p t out in
       Refuses {S = Session × List ℕ} (1 ∷ 2 ∷ 3 ∷ 6 ∷ 7 ∷ 8 ∷ 9 ∷ 10 ∷ 12 ∷ []) (rules x s p t out) (x, out) (a .verdict, (a .session, bytes))
@@ -107,7 +108,9 @@ pub record Demand-1 : Type 2 where
   -- for C the same holds of a definition above, told; four calls have a definition of their own
   pub told : {S : Type 0} {numbers : List ℕ} {rules : List Rule} {before : S} (answer : Verdict × S)
       → Refuses numbers rules before answer → RefusesC numbers rules before (told answer)
-  pub buongilach-open : (consist session : List ℕ) → RefusesC (2 ∷ 4 ∷ 5 ∷ 12 ∷ 13 ∷ []) (openRules consist session) session (openBytes consist session)
+  -- by either of the two openings
+  pub buongilach-open : (consist session : List ℕ) (choice : Choice)
+      → RefusesC (2 ∷ 4 ∷ 5 ∷ 12 ∷ 13 ∷ []) (openRules consist session) session (openBytes consist session choice)
   pub buongilach-sample : (session s p t decision : List ℕ) →
       let (n, x, d) = sampleBytes session s p t decision in
       RefusesC {S = List ℕ × List ℕ} (1 ∷ 2 ∷ 3 ∷ 6 ∷ 7 ∷ 8 ∷ 9 ∷ 10 ∷ 12 ∷ []) (sampleRules session s p t decision) (session, decision) (n, (x, d))

@@ -6,7 +6,6 @@ use mathlib.Core.Bool.{Bool, true, false}
 use mathlib.Core.List.{List, [], _∷_, _++_, map}
 use Prim.Native.Nat.{ℕ, _*_, _<_, min}
 use Rattle.refusal.specs.declared.Verdict.{Verdict}
-use Rattle.consist.specs.declared.Consist.{Consist}
 use Rattle.targets.specs.Targets.{most, count, targetAt, speedsIn}
 use Rattle.decision.specs.declared.Decision.{Decision}
 use Rattle.walk.specs.Walk.{Arrival, locationOf}
@@ -16,7 +15,7 @@ use Rattle.judge.specs.Approach.{Approach, force, ground, predictionOf, callOf}
 use Rattle.judge.specs.Emergency.{Emergency, emergencyForce, emergencyStop, emergencyCallOf}
 use Rattle.sampling.specs.Laws.{Lent}
 use Rattle.demands.specs.Machine.{Call, opening, sampling, Lends, LendsEach, Machine, call, replies, after, Holding, Accepts, Decides}
-use Rattle.demands.specs.History.{standsIn, decisionAt, Standing, nothing, since, sessionAt, standingAfter, paperFrom}
+use Rattle.demands.specs.History.{Begun, standsIn, decisionAt, Standing, nothing, since, sessionAt, standingAfter, paperFrom}
 
 module _ {S T : Type 0} (h : Holding S T) where
   -- a verdict and an output, as they are told
@@ -32,7 +31,7 @@ module _ {S T : Type 0} (h : Holding S T) where
     -- no opening among the calls is accepted
     abbrev pub NotOpenedAnew : S → List Call → Type 0
     NotOpenedAnew z [] = Unit {0}
-    NotOpenedAnew z (opening s ∷ ks) = let r = call m z (opening s) in (Accepts h r → ⊥) × NotOpenedAnew (r .state) ks
+    NotOpenedAnew z (opening s choice ∷ ks) = let r = call m z (opening s choice) in (Accepts h r → ⊥) × NotOpenedAnew (r .state) ks
     NotOpenedAnew z (sampling l ∷ ks) = NotOpenedAnew (call m z (sampling l) .state) ks
 
     pub record Demand-2 : Type 0 where
@@ -42,7 +41,7 @@ module _ {S T : Type 0} (h : Holding S T) where
       pub history-held : (ks : List Call) → LendsEach ks → after m (m .none) ks ≡ stateAt (m .none) (standingAfter nothing ks)
       -- each record of a sample that is accepted then reads as the paper's decision, of the penalty and of emergency
       pub decision-read : (e : Bool) (ks : List Call) (l : Lent) → LendsEach ks → Lends (sampling l) →
-          (c : Consist) (past : List Lent) → standingAfter nothing ks ≡ since c past →
+          (c : Begun) (past : List Lent) → standingAfter nothing ks ≡ since c past →
           let r = call m (after m (m .none) ks) (sampling l) in
           Accepts h r → Decides h e r (decisionAt e c past l)
       -- "Once commanded, a penalty stands until the session is opened anew.", and so does an emergency: a decision d with the bit, any calls after it,
@@ -58,7 +57,7 @@ module _ {S T : Type 0} (h : Holding S T) where
 
 -- in the paper's words: whatever samples are accepted later, the cause of a history stays, of the penalty and of emergency
 unfoldable pub CauseStays : Type 0
-CauseStays = (e : Bool) (c : Consist) (h later : List Lent) → 0 < standsIn e c h → standsIn e c (later ++ h) ≡ standsIn e c h
+CauseStays = (e : Bool) (c : Begun) (h later : List Lent) → 0 < standsIn e c h → standsIn e c (later ++ h) ≡ standsIn e c h
 
 -- ---- the locations, by the walk as the paper words it, with a squared speed that may be below zero
 

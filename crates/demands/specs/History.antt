@@ -16,6 +16,7 @@ use Rattle.targets.specs.Targets.{most, speedsIn}
 use Rattle.sample.specs.declared.Sample.{Sample}
 use Rattle.decision.specs.declared.Decision.{Decision}
 use Rattle.decision.specs.Decision.{bothBytes}
+use Rattle.brake.specs.declared.Choice.{Choice}
 use Rattle.brake.specs.declared.Brake.{Brake}
 use Rattle.brake.specs.State.{stateNumber}
 use Rattle.brake.specs.Brake.{atOpening}
@@ -31,23 +32,30 @@ use Rattle.sampling.specs.Sample.{sampleIn, decidedWith}
 use Rattle.sampling.specs.Laws.{Lent}
 use Rattle.demands.specs.Machine.{Call, opening, sampling}
 
+-- ---- what a session was opened with
+
+pub record Begun : Type 0 where
+  pub consist : Consist
+  -- R-7: "the old choice in the opening", or the default
+  pub choice : Choice
+
 -- ---- "The air brakes, once a sample"
 
-unfoldable pub brakes : Consist → List Lent → Brake
-brakes c [] = atOpening c
-brakes c (l ∷ h) = let m = sampleIn (l .sample) in updateOf c (brakes c h) (m .time) (m .front) (m .rear)
+unfoldable pub brakes : Begun → List Lent → Brake
+brakes c [] = atOpening (c .consist) (c .choice)
+brakes c (l ∷ h) = let m = sampleIn (l .sample) in updateOf (c .consist) (brakes c h) (m .time) (m .front) (m .rear)
 
 -- ---- the prediction made of the sample l after the history h
 
 -- "It starts after the update, with A, B and clock t = 0"
-abbrev pub approachAt : Consist → List Lent → Lent → Approach
-approachAt c h l = approachOf c (brakes c (l ∷ h)) (sampleIn (l .sample)) (l .profile)
+abbrev pub approachAt : Begun → List Lent → Lent → Approach
+approachAt c h l = approachOf (c .consist) (brakes c (l ∷ h)) (sampleIn (l .sample)) (l .profile)
 
-abbrev pub predictionAt : Consist → List Lent → Lent → Prediction
+abbrev pub predictionAt : Begun → List Lent → Lent → Prediction
 predictionAt c h l = predictionOf (approachAt c h l) (speedsIn (l .targets) most)
 
 -- the calls of a history, the earliest first: the first target that each prediction calls for the penalty by, 0 for none
-unfoldable pub callsIn : Consist → List Lent → List ℕ
+unfoldable pub callsIn : Begun → List Lent → List ℕ
 callsIn c [] = []
 callsIn c (l ∷ h) = callsIn c h ++ callOf (approachAt c h l) (l .targets) ∷ []
 
@@ -56,36 +64,36 @@ firstCall [] = 0
 firstCall (n ∷ ns) = cond (eqb n 0) (firstCall ns) n
 
 -- "The cause is the first such target and, like the penalty, stays."
-abbrev pub causeIn : Consist → List Lent → ℕ
+abbrev pub causeIn : Begun → List Lent → ℕ
 causeIn c h = firstCall (callsIn c h)
 
 -- ---- R-5: "From the sample that calls the penalty on, predict a stop by emergency air too"
 
-abbrev pub emergencyAt : Consist → List Lent → Lent → Emergency
-emergencyAt c h l = emergencyOf c (brakes c (l ∷ h)) (sampleIn (l .sample)) (l .profile)
+abbrev pub emergencyAt : Begun → List Lent → Lent → Emergency
+emergencyAt c h l = emergencyOf (c .consist) (brakes c (l ∷ h)) (sampleIn (l .sample)) (l .profile)
 
 -- the calls of emergency, as those for the penalty; none before a penalty stands
-unfoldable pub emergencyCallsIn : Consist → List Lent → List ℕ
+unfoldable pub emergencyCallsIn : Begun → List Lent → List ℕ
 emergencyCallsIn c [] = []
 emergencyCallsIn c (l ∷ h) = emergencyCallsIn c h ++ behind (causeIn c (l ∷ h)) (emergencyCallOf (emergencyAt c h l) (l .targets)) ∷ []
 
 -- "Emergency is called .. and it stays called."
-abbrev pub emergencyIn : Consist → List Lent → ℕ
+abbrev pub emergencyIn : Begun → List Lent → ℕ
 emergencyIn c h = firstCall (emergencyCallsIn c h)
 
 -- ---- what is decided, and what is refused
 
 -- of the penalty, or of emergency
-abbrev pub standsIn : (emergency : Bool) → Consist → List Lent → ℕ
+abbrev pub standsIn : (emergency : Bool) → Begun → List Lent → ℕ
 standsIn false c h = causeIn c h
 standsIn true c h = emergencyIn c h
 
 -- "stopping location"; "its location the emergency stop"
-abbrev pub stopAt : (emergency : Bool) → Consist → List Lent → Lent → ℕ
+abbrev pub stopAt : (emergency : Bool) → Begun → List Lent → Lent → ℕ
 stopAt false c h l = predictionAt c h l .stop
 stopAt true c h l = behind (causeIn c (l ∷ h)) (emergencyStop (emergencyAt c h l))
 
-abbrev pub decisionAt : (emergency : Bool) → Consist → List Lent → Lent → Decision
+abbrev pub decisionAt : (emergency : Bool) → Begun → List Lent → Lent → Decision
 decisionAt e c h l = decidedWith e (sampleIn (l .sample) .time) (stateNumber (brakes c (l ∷ h) .state)) (standsIn e c (l ∷ h)) (stopAt e c h l)
 
 -- 9: "time not 1 to 5 seconds after the last accepted sample"; "The session's first sample may have any time and is never refused 9."
@@ -94,39 +102,39 @@ wrongTimeAfter [] m = false
 wrongTimeAfter (l ∷ h) m = let last = sampleIn (l .sample) .time in not (leb (last + 1) (m .time) && leb (m .time) (last + 5))
 
 -- the table, as far as a sample call uses it while a session is open
-abbrev pub rulesAt : Consist → List Lent → Lent → List Rule
+abbrev pub rulesAt : Begun → List Lent → Lent → List Rule
 rulesAt c h l =
-    linesOpen c (wrongTimeAfter h (sampleIn (l .sample))) (l .sample) (l .profile) (l .targets) (l .out)
+    linesOpen (c .consist) (wrongTimeAfter h (sampleIn (l .sample))) (l .sample) (l .profile) (l .targets) (l .out)
 
 -- ---- a run
 
--- what stands: nothing, or a consist with the samples accepted since its opening, the latest first
+-- what stands: nothing, or what a session was opened with and the samples accepted since, the latest first
 pub data Standing : Type 0 where
   nothing : Standing
-  since : Consist → List Lent → Standing
+  since : Begun → List Lent → Standing
 
 -- "Opening uses 2, 4 and 5"; 1: "a sample is offered and no session is open"
 abbrev pub verdictAt : Standing → Call → Verdict
-verdictAt st (opening s) = lowest (readRules s)
+verdictAt st (opening s choice) = lowest (readRules s)
 verdictAt nothing (sampling l) = Refused NoSession
 verdictAt (since c h) (sampling l) = lowest (rulesAt c h l)
 
 -- "if refused, an earlier session stays as it was"; accepted, an opening begins a new history, and a sample is added to the one that stands
 abbrev pub next : Standing → Call → Standing
-next st (opening s) = kept (lowest (readRules s)) (since (consistIn s) []) st
+next st (opening s choice) = kept (lowest (readRules s)) (since (record { consist = consistIn s; choice = choice }) []) st
 next nothing (sampling l) = nothing
 next (since c h) (sampling l) = kept (lowest (rulesAt c h l)) (since c (l ∷ h)) (since c h)
 
 -- unchanged where refused; otherwise both records, and no other byte
 abbrev pub outAt : Standing → Call → List ℕ
-outAt st (opening s) = []
+outAt st (opening s choice) = []
 outAt nothing (sampling l) = l .out
 outAt (since c h) (sampling l) = written (lowest (rulesAt c h l)) (bothBytes (decisionAt false c h l) (decisionAt true c h l)) (l .out) .1
 
 -- the session that holds what stands: the consist, the air brakes and the two causes after the history
 abbrev pub sessionAt : Standing → Session
 sessionAt nothing = noneOpen
-sessionAt (since c h) = record { opened = true; consist = c; brake = brakes c h; cause = causeIn c h; emergency = emergencyIn c h }
+sessionAt (since c h) = record { opened = true; consist = c .consist; brake = brakes c h; cause = causeIn c h; emergency = emergencyIn c h }
 
 -- what stands after calls
 unfoldable pub standingAfter : Standing → List Call → Standing

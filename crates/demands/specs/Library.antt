@@ -1,9 +1,9 @@
--- The C library as a machine: buongilach_open and buongilach_sample, with the session in lent bytes; specs/Demands.antt says what is demanded of it.
+-- The C library as a machine: buongilach_open, buongilach_open_with and buongilach_sample, with the session in lent bytes; specs/Demands.antt says what is demanded of it.
 -- Beside that, damage to these bytes is seen: a statement, which proofs/Contracts.antt proves.
 use mathlib.Core.Path.{_≡_}
 use mathlib.Core.Bool.{true}
 use mathlib.Core.List.{List, _++_}
-use Prim.Native.Nat.{ℕ, _≤_}
+use Prim.Native.Nat.{ℕ, _^_, _≤_, _<_}
 use lib.ListN.{length, drop}
 use borrow.Fn.World.{ArgsD}
 use contract.Lifetimes.{Lfts}
@@ -11,12 +11,15 @@ use denote.Ref.{now}
 use denote.Triple.Clauses.{AtExit}
 use Rattle.seal.specs.Apart.{apart}
 use Rattle.refusal.specs.Number.{numberOfVerdict}
+use Rattle.brake.specs.declared.Choice.the-variants.{FiveSeconds}
+use Rattle.brake.specs.Rear.{choiceOf}
 use Rattle.session.specs.declared.Session.{Session}
 use Rattle.session.specs.Session.{isOpen}
 use Rattle.sampling.specs.Laws.{Lent}
 use Rattle.held.specs.Held.{most, recordAt, bytesOf, readSession}
 use Rattle.lent.specs.Lent.{bufferOf, openBytes, sampleBytes}
 use Rattle.buongilach.proofs.buongilach_open as open-call
+use Rattle.buongilach.proofs.buongilach_open_with as open-with-call
 use Rattle.buongilach.proofs.buongilach_sample as sample-call
 use Rattle.demands.specs.Machine.{Slice, Lends, sampling, Machine, call, Holding, Unopened}
 
@@ -42,8 +45,13 @@ lentTo κs = λ (_, (s, (p, (t, (out, _))))). record { sample = now s; profile =
 pub record Meets (m : Machine (List ℕ) ℕ) : Type 0 where
   pub none : Unopened inBytes (m .none)
   pub opens : (κs : Lfts 2) (a : ArgsD open-call.signature κs) (x : AtExit open-call.ended κs) → Slice (now (a .0)) → Slice (now (a .1 .0)) →
-      let r = m .opens (now (a .0)) (now (a .1 .0)) in
+      let r = m .opens (now (a .0)) (now (a .1 .0)) FiveSeconds in
       now (x .0) ≡ r .1 → open-call.Reads.Post κs a (r .0) x
+  pub opens-with : (κs : Lfts 2) (a : ArgsD open-with-call.signature κs) (x : AtExit open-with-call.ended κs) →
+      let everlasting : ℕ = a .1 .1 .0 in
+      Slice (now (a .0)) → Slice (now (a .1 .0)) → everlasting < 2 ^ 32 →
+      let r = m .opens (now (a .0)) (now (a .1 .0)) (choiceOf everlasting) in
+      now (x .0) ≡ r .1 → open-with-call.Reads.Post κs a (r .0) x
   pub samples : (κs : Lfts 5) (a : ArgsD sample-call.signature κs) (x : AtExit sample-call.ended κs) → Slice (now (a .0)) → Lends (sampling (lentTo κs a)) →
       let r = m .samples (now (a .0)) (lentTo κs a) in
       let (session, (_, (_, (_, (out, _))))) = x in
@@ -53,7 +61,7 @@ pub record Meets (m : Machine (List ℕ) ℕ) : Type 0 where
 abbrev pub ourLibrary : List ℕ → Machine (List ℕ) ℕ
 ourLibrary z = record {
   none = z;
-  opens = λ session s. openBytes s session;
+  opens = λ session s choice. openBytes s session choice;
   samples = λ session l.
       let r = sampleBytes session (l .sample) (l .profile) (l .targets) (l .out) in
       record { told = r .0; state = r .1; out = r .2 };

@@ -11,6 +11,7 @@ use Rattle.refusal.specs.declared.Verdict.{Verdict}
 use Rattle.refusal.specs.declared.Verdict.the-variants.{Accepted}
 use Rattle.decision.specs.declared.Decision.{Decision}
 use Rattle.decision.specs.Decision.{size, readDecision}
+use Rattle.brake.specs.declared.Choice.{Choice}
 use Rattle.session.specs.declared.Session.{Session}
 use Rattle.session.specs.Session.{noneOpen}
 use Rattle.session.specs.Open.{openOf}
@@ -19,9 +20,9 @@ use Rattle.sampling.specs.Laws.{Lent}
 
 -- ---- the calls of a customer
 
--- an opening with a consist's bytes, or a sample call with what is lent to it
+-- an opening with a consist's bytes and a choice, or a sample call with what is lent to it
 pub data Call : Type 0 where
-  opening : List ℕ → Call
+  opening : List ℕ → Choice → Call
   sampling : Lent → Call
 
 -- what can be lent: slices of bytes
@@ -29,7 +30,7 @@ abbrev pub Slice : List ℕ → Type 0
 Slice s = Bytes s × (length s < 2 ^ 63)
 
 abbrev pub Lends : Call → Type 0
-Lends (opening s) = Slice s
+Lends (opening s choice) = Slice s
 Lends (sampling l) = Slice (l .sample) × Slice (l .profile) × Slice (l .targets) × Slice (l .out)
 
 abbrev pub LendsEach : List Call → Type 0
@@ -47,12 +48,12 @@ pub record Reply (S T : Type 0) : Type 0 where
 -- the value before any opening, and the two calls; an opening is lent no output
 pub record Machine (S T : Type 0) : Type 0 where
   pub none : S
-  pub opens : S → List ℕ → T × S
+  pub opens : S → List ℕ → Choice → T × S
   pub samples : S → Lent → Reply S T
 
 module _ {S T : Type 0} (m : Machine S T) where
   abbrev pub call : S → Call → Reply S T
-  call z (opening s) = let r = m .opens z s in record { told = r .0; state = r .1; out = [] }
+  call z (opening s choice) = let r = m .opens z s choice in record { told = r .0; state = r .1; out = [] }
   call z (sampling l) = m .samples z l
 
   -- what a run tells, call by call, and the state after it
@@ -70,7 +71,7 @@ module _ {S T : Type 0} (m : Machine S T) where
 abbrev pub ours : Machine Session Verdict
 ours = record {
   none = noneOpen;
-  opens = λ x s. let a = openOf x s in (a .verdict, a .session);
+  opens = λ x s choice. let a = openOf x s choice in (a .verdict, a .session);
   samples = λ x l. let a = sampleCall x (l .sample) (l .profile) (l .targets) (l .out) in record { told = a .0 .verdict; state = a .0 .session; out = a .1 };
 }
 

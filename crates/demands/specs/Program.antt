@@ -2,7 +2,7 @@
 -- of it.
 use mathlib.Core.Path.{_≡_}
 use mathlib.Core.List.{List, [], _∷_}
-use Prim.Native.Nat.{ℕ, _^_, _<_}
+use Prim.Native.Nat.{ℕ, _^_, _≤_, _<_}
 use lib.ListN.{length}
 use borrow.Fn.World.{ArgsD}
 use contract.Lifetimes.{Lfts}
@@ -13,6 +13,7 @@ use Rattle.refusal.specs.declared.Verdict.{Verdict}
 use Rattle.blocks.specs.declared.Blocks.{Blocks}
 use Rattle.blocks.specs.Blocks.{most}
 use Rattle.consist.specs.Consist.{fieldsOf}
+use Rattle.brake.specs.Rear.{heardNumber}
 use Rattle.brake.specs.Brake.{brakeTold}
 use Rattle.session.specs.declared.Session.{Session}
 use Rattle.session.specs.Session.{answer}
@@ -39,11 +40,13 @@ pub record FitsBlocks (b : Blocks) : Type 0 where
   pub weights-places : length (b .weights) ≡ most
   pub weights : Words 16 (b .weights)
 
--- each field fits its word: of the consist and of the brake in the order of `fieldsOf` and `brakeTold`, the two causes, and the consist's blocks
+-- each field fits its word: of the consist and of the brake in the order of `fieldsOf` and `brakeTold`, the time at which the rear was last present, the two
+-- causes, and the consist's blocks
 abbrev pub FitsWords : Session → Type 0
 FitsWords x =
     Fit (16 ∷ 16 ∷ 16 ∷ 16 ∷ 32 ∷ 32 ∷ 16 ∷ 16 ∷ 16 ∷ []) (fieldsOf (x .consist))
-    × Fit (8 ∷ 16 ∷ 16 ∷ 16 ∷ 16 ∷ 16 ∷ 16 ∷ 16 ∷ 32 ∷ 1 ∷ []) (brakeTold (x .brake))
+    × Fit (8 ∷ 16 ∷ 16 ∷ 16 ∷ 16 ∷ 16 ∷ 16 ∷ 16 ∷ 32 ∷ 1 ∷ 1 ∷ 33 ∷ []) (brakeTold (x .brake))
+    × (heardNumber (x .brake .heard) ≤ 2 ^ 32)
     × (x .cause < 2 ^ 8)
     × (x .emergency < 2 ^ 8)
     × FitsBlocks (x .consist .blocks)
@@ -62,7 +65,7 @@ lentTo κs = λ (_, (s, (p, (t, (out, _))))). record { sample = now s; profile =
 pub record Meets (m : Machine Session Verdict) : Type 0 where
   pub none : (κs : Lfts 0) (a : _) (x : _) → none-reads.Post κs a (m .none) x
   pub opens : (κs : Lfts 1) (a : ArgsD open-call.signature κs) (x : _) → FitsWords (a .0) → Slice (now (a .1 .0)) →
-      let r = m .opens (a .0) (now (a .1 .0)) in
+      let r = m .opens (a .0) (now (a .1 .0)) (a .1 .1 .0) in
       open-reads.Post κs a (answer (r .1) (r .0)) x
   pub samples : (κs : Lfts 4) (a : ArgsD sample-call.signature κs) (x : AtExit sample-call.ended κs) → FitsWords (a .0) → Lends (sampling (lentTo κs a)) →
       let r = m .samples (a .0) (lentTo κs a) in

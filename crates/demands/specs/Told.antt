@@ -6,6 +6,7 @@ use Rattle.refusal.specs.Number.{numberOf, numberOfVerdict, told}
 use Rattle.hundredths.specs.Reading.{readingTold}
 use Rattle.sample.specs.Sample.{rearTold, rawTold, pressureTold, sampleTold, judgedTold, answerTold as rawAnswerTold}
 use Rattle.brake.specs.State.{stateNumber}
+use Rattle.brake.specs.Rear.{choiceNumber, heardNumber}
 use Rattle.brake.specs.Brake.{brakeTold}
 use Rattle.session.specs.Session.{sessionTold, answerTold, callTold}
 use Rattle.held.specs.Held.{readTold}
@@ -21,6 +22,8 @@ pub record ToldApart : Type 1 where
   pub rear : Apart rearTold
   pub pressure : Apart pressureTold
   pub state : Apart stateNumber
+  pub choice : Apart choiceNumber
+  pub heard : Apart heardNumber
   -- each value that holds one
   pub raw : Apart rawTold
   pub sample : Apart sampleTold

@@ -29,6 +29,7 @@ use Rattle.walk.specs.Range.{Walkable}
 use Rattle.walk.proofs.predict.{signature, ended}
 use Rattle.walk.proofs.predict.Reads as predict-reads
 use Rattle.judge.specs.Approach.{Approach, force, ground}
+use Rattle.brake.specs.declared.Choice.{Choice}
 use Rattle.sampling.specs.Sample.{sampleIn, approach}
 use Rattle.sampling.specs.Laws.{Lent}
 use Rattle.demands.specs.Machine.{Call, opening, sampling, Slice, Lends, LendsEach, Reply, Machine, call, after, Holding, Accepts, Decides}
@@ -80,7 +81,7 @@ module _ {S T : Type 0} (h : Holding S T) (m : Machine S T) where
 
   pub record NotUseless : Type 0 where
     -- "One that refuses everything is caught by demand 1's exact conditions."
-    pub refuses-openings : ((ks : List Call) (s : List ℕ) → LendsEach ks → Slice s → IsRefused (call m (after m (m .none) ks) (opening s))) → ⊥
+    pub refuses-openings : ((ks : List Call) (s : List ℕ) (choice : Choice) → LendsEach ks → Slice s → IsRefused (call m (after m (m .none) ks) (opening s choice))) → ⊥
     pub refuses-samples : EverySample (λ z l r. IsRefused r) → ⊥
     -- "One with a constant answer, and one that leaves session and output untouched, are caught by demand 2"
     pub constant : (b : List ℕ) → EverySample (λ z l r. Accepts h r → said r ≡ b) → ⊥

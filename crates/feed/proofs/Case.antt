@@ -10,6 +10,7 @@ pub computed : Case
 unfolding computing blocksAhead profileAhead targetsAhead taken lastDigits decimal decisionText refusalText linesOf outputOf
 computed = record {
   whole-output = refl;
+  by-old-choice = refl;
   short-sample = refl;
   goes-on = refl;
   no-samples = refl;

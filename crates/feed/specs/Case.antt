@@ -3,6 +3,7 @@ use mathlib.Core.Path.{_≡_}
 use mathlib.Core.List.{List, [], _∷_, _++_}
 use Prim.Native.Nat.{ℕ}
 use lib.ListN.{take, set}
+use Rattle.brake.specs.declared.Choice.the-variants.{FiveSeconds, Everlasting}
 use Rattle.feed.specs.Output.{outputOf}
 
 -- 10 cars, 40 axles, 1,000 tons, 600 ft, 200,000 lb, 30,000 ms, recharge 50, set 9,000, offset 500
@@ -87,26 +88,28 @@ abbrev pub thirteen : List ℕ
 thirteen = 120 ∷ 32 ∷ 49 ∷ 51 ∷ 10 ∷ []
 
 pub record Case : Type 0 where
-  pub whole-output : outputOf (opening ++ first ++ second ++ third) ≡ firstLines ++ secondLines ++ thirdLines
+  pub whole-output : outputOf FiveSeconds (opening ++ first ++ second ++ third) ≡ firstLines ++ secondLines ++ thirdLines
+  -- no rear is lost in it, so that the old choice prints the same
+  pub by-old-choice : outputOf Everlasting (opening ++ first ++ second ++ third) ≡ firstLines ++ secondLines ++ thirdLines
   -- the last 5 bytes do not come: `x 2`
-  pub short-sample : outputOf (opening ++ first ++ second ++ take 15 third) ≡ firstLines ++ secondLines ++ crossed 50
+  pub short-sample : outputOf FiveSeconds (opening ++ first ++ second ++ take 15 third) ≡ firstLines ++ secondLines ++ crossed 50
   -- the first sample again, refused `x 9`, does not end the run
-  pub goes-on : outputOf (opening ++ first ++ first ++ second) ≡ firstLines ++ crossed 57 ++ secondLines
+  pub goes-on : outputOf FiveSeconds (opening ++ first ++ first ++ second) ≡ firstLines ++ crossed 57 ++ secondLines
   -- no samples, no output
-  pub no-samples : outputOf opening ≡ []
+  pub no-samples : outputOf FiveSeconds opening ≡ []
   -- no bytes at all: `x 2`
-  pub no-consist : outputOf [] ≡ crossed 50
+  pub no-consist : outputOf FiveSeconds [] ≡ crossed 50
   -- a profile of 1 record: `x 6`
-  pub one-record : outputOf (consist ++ 0 ∷ 0 ∷ 1 ∷ profile ++ 1 ∷ targets ++ first) ≡ crossed 54
+  pub one-record : outputOf FiveSeconds (consist ++ 0 ∷ 0 ∷ 1 ∷ profile ++ 1 ∷ targets ++ first) ≡ crossed 54
   -- 9 targets: `x 7`
-  pub nine-targets : outputOf (consist ++ 0 ∷ 0 ∷ 2 ∷ profile ++ 9 ∷ targets ++ first) ≡ crossed 55
+  pub nine-targets : outputOf FiveSeconds (consist ++ 0 ∷ 0 ∷ 2 ∷ profile ++ 9 ∷ targets ++ first) ≡ crossed 55
   -- on level track blocks change nothing
-  pub level-blocks : outputOf (consist ++ 2 ∷ blocks ++ 0 ∷ 2 ∷ profile ++ 1 ∷ targets ++ first ++ second ++ third) ≡ firstLines ++ secondLines ++ thirdLines
+  pub level-blocks : outputOf FiveSeconds (consist ++ 2 ∷ blocks ++ 0 ∷ 2 ∷ profile ++ 1 ∷ targets ++ first ++ second ++ third) ≡ firstLines ++ secondLines ++ thirdLines
   -- no count, 65 blocks, one of two missing: `x 13`
-  pub no-count : outputOf consist ≡ thirteen
-  pub too-many-blocks : outputOf (consist ++ 65 ∷ blocks) ≡ thirteen
-  pub short-blocks : outputOf (consist ++ 2 ∷ block) ≡ thirteen
+  pub no-count : outputOf FiveSeconds consist ≡ thirteen
+  pub too-many-blocks : outputOf FiveSeconds (consist ++ 65 ∷ blocks) ≡ thirteen
+  pub short-blocks : outputOf FiveSeconds (consist ++ 2 ∷ block) ≡ thirteen
   -- one whose length and weight are not the consist's: `x 13`
-  pub wrong-sums : outputOf (consist ++ 1 ∷ take 4 blocks ++ 0 ∷ 2 ∷ profile ++ 1 ∷ targets ++ first) ≡ thirteen
+  pub wrong-sums : outputOf FiveSeconds (consist ++ 1 ∷ take 4 blocks ++ 0 ∷ 2 ∷ profile ++ 1 ∷ targets ++ first) ≡ thirteen
   -- 96 tons for 10 cars, whatever follows: `x 5`
-  pub too-light-first : outputOf (set consist 3 12 ++ 65 ∷ blocks) ≡ crossed 53
+  pub too-light-first : outputOf FiveSeconds (set consist 3 12 ++ 65 ∷ blocks) ≡ crossed 53

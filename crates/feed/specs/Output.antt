@@ -9,6 +9,7 @@ use Rattle.refusal.specs.declared.Verdict.the-variants.{Accepted, Refused}
 use Rattle.consist.specs.Consist as consist
 use Rattle.sample.specs.Sample as sample
 use Rattle.decision.specs.Decision as decision
+use Rattle.brake.specs.declared.Choice.{Choice}
 use Rattle.session.specs.declared.Session.{Session}
 use Rattle.session.specs.Session.{noneOpen}
 use Rattle.session.specs.Open.{openOf}
@@ -96,13 +97,13 @@ printed Accepted (Bytes n) Broken lines = refusalText BrokenTargets
 -- otherwise the samples' lines, and where there are no samples nothing
 printed Accepted (Bytes n) (Bytes m) lines = lines
 
--- The whole output of a feed. That `run` prints it is not proved, as a descriptor's contents are in no contract: `run` is compared with the second
+-- The whole output of a feed, under a choice (02, R-7), which its bytes do not carry. That `run` prints it is not proved, as a descriptor's contents are in no contract: `run` is compared with the second
 -- program.
-unfoldable pub outputOf : List ℕ → List ℕ
-outputOf feed =
-    let alone = openOf noneOpen (consistBytes feed) in
+unfoldable pub outputOf : Choice → List ℕ → List ℕ
+outputOf choice feed =
+    let alone = openOf noneOpen (consistBytes feed) choice in
     let blocks = blocksTaken (blocksAnnounced feed) (blocksBytes feed) in
-    let answer = openOf noneOpen (consistBytes feed ++ blocksBytes feed) in
+    let answer = openOf noneOpen (consistBytes feed ++ blocksBytes feed) choice in
     let profile = profileTaken (profileAnnounced feed) (profileBytes feed) in
     let targets = targetsTaken (targetsAnnounced feed) (targetsBytes feed) in
     let lines = linesOf (answer .session) (profileBytes feed) (targetsBytes feed) (samplesIn feed) in

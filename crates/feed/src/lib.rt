@@ -1,6 +1,7 @@
 // The session program over two descriptors: a feed is read from one, and its lines are written to the other. Nothing is read
 // past what is needed to answer, lines are written as soon as their sample is judged, and a feed of any length runs in the same
 // memory.
+use brake::Choice;
 use consist::Consist;
 use decision::Decision;
 use line::ROOM;
@@ -84,7 +85,7 @@ fn read_blocks(input: i32, b: &mut [u8]) -> Part
 }
 
 // Reads the blocks behind the consist's 16 bytes in `s`, and opens a session with all of it.
-fn open_with_blocks(input: i32, s: &mut [u8]) -> Answer
+fn open_with_blocks(input: i32, s: &mut [u8], choice: Choice) -> Answer
     requires { ⌜ consistRoom ≤ length (now s) ⌝ }
 {
     let Part::Bytes(n) = read_blocks(input, &mut s[Consist::SIZE..]) else {
@@ -93,19 +94,19 @@ fn open_with_blocks(input: i32, s: &mut [u8]) -> Answer
             verdict: Verdict::Refused(Refusal::BrokenBlocks),
         };
     };
-    session::open(session::none(), &s[..Consist::SIZE + n])
+    session::open(session::none(), &s[..Consist::SIZE + n], choice)
 }
 
 // Reads a consist to the front of `s`, and opens a session with it. Its 16 bytes are judged by themselves before its blocks are
 // read.
-fn read_consist(input: i32, s: &mut [u8]) -> Answer
+fn read_consist(input: i32, s: &mut [u8], choice: Choice) -> Answer
     requires { ⌜ consistRoom ≤ length (now s) ⌝ }
 {
     let n = read_front(input, Consist::SIZE, s);
-    let alone = session::open(session::none(), &s[..n]);
+    let alone = session::open(session::none(), &s[..n], choice);
     let verdict = alone.verdict;
     match verdict {
-        Verdict::Accepted => open_with_blocks(input, s),
+        Verdict::Accepted => open_with_blocks(input, s, choice),
         Verdict::Refused(_) => alone,
     }
 }
@@ -171,10 +172,10 @@ fn answer_all(input: i32, output: i32, x: Session, p: &[u8], t: &[u8]) {
     }
 }
 
-// Runs a feed: consist and blocks, profile, targets, then samples.
-pub fn run(input: i32, output: i32) {
+// Runs a feed: consist and blocks, profile, targets, then samples. A feed does not carry the choice of what a lost rear counts as.
+pub fn run(input: i32, output: i32, choice: Choice) {
     let mut consist = [0u8; CONSIST_ROOM];
-    let answer = read_consist(input, &mut consist);
+    let answer = read_consist(input, &mut consist, choice);
     let verdict = answer.verdict;
     if let Verdict::Refused(r) = verdict {
         print_refusal(output, r);

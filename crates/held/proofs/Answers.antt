@@ -31,6 +31,7 @@ use Rattle.consist.specs.Consist as consist
 use Rattle.consist.proofs.Answers as consist-answers
 use Rattle.consist.proofs.Sound as consist-sound
 use Rattle.brake.proofs.StateNumbers.{number-most}
+use Rattle.brake.proofs.Rear.{choice-most}
 use Rattle.session.specs.declared.Session.{Session}
 use Rattle.session.specs.declared.Answer.{Answer}
 use Rattle.session.specs.Session.{isOpen}
@@ -48,18 +49,18 @@ read-tells x y h = ap (λ (a : Answer). (a .verdict, a .session)) (answer-one (r
 pub record IsFront (s : List ℕ) : Type 0 where
   pub seal : isSealed s ≡ true
   pub marked : getD (fieldsAt s) 0 0 ≡ markFor (countIn (getD (fieldsAt s) 0 0))
-  pub state : getD (fieldsAt s) 4 0 ≤ 5
+  pub state : getD (fieldsAt s) 5 0 ≤ 5
 
 is-front : (s : List ℕ) → noFront s ≡ false → IsFront s
 unfolding noFront
 is-front s h =
     let m = getD (fieldsAt s) 0 0 in
-    let x = neither (not (isSealed s) || wrongMark m) (ltb 5 (getD (fieldsAt s) 4 0)) h in
+    let x = neither (not (isSealed s) || wrongMark m) (ltb 5 (getD (fieldsAt s) 5 0)) h in
     let y = neither (not (isSealed s)) (wrongMark m) (x .0) in
     record {
       seal = not-false (isSealed s) (y .0);
       marked = mark-back m (y .1);
-      state = ltb-false 5 (getD (fieldsAt s) 4 0) (x .1);
+      state = ltb-false 5 (getD (fieldsAt s) 5 0) (x .1);
     }
 
 pub record IsRecord (s : List ℕ) : Type 0 where
@@ -179,11 +180,11 @@ module _ (s : List ℕ) where
     pub count-above : 0 < countAt s
     count-above = some-blocks (countAt s) (λ e. h (r .long ∙ e))
 
-    pub long-with : length s ≡ 45 + 4 * countAt s
+    pub long-with : length s ≡ size + 4 + 4 * countAt s
     long-with = r .long ∙ size-some (countAt s) count-above
 
-    pub blocks-behind : take (length s - 4 - 41) (behindAt s) ≡ blocksAt s
-    blocks-behind = let e : length s - 4 - 41 ≡ 4 * countAt s = omega (arith, long-with) in ap (λ (n : ℕ). take n (behindAt s)) e
+    pub blocks-behind : take (length s - 4 - size) (behindAt s) ≡ blocksAt s
+    blocks-behind = let e : length s - 4 - size ≡ 4 * countAt s = omega (arith, long-with) in ap (λ (n : ℕ). take n (behindAt s)) e
 
 -- ---- the writer
 
@@ -235,4 +236,4 @@ module _ (x : Session) (h : isOpen x ≡ true) where
   fits =
       let o = opened x h in
       let k = o .brake in
-      omega (arith, mark-fits (x .consist .blocks .count) few, number-most (x .brake .state), bit-fits (x .brake .sampled), o .cause, o .emergency, k .a, k .b, k .equalization, k .fall, k .hold, k .front, k .rear, k .time, o .consist .ranged)
+      omega (arith, mark-fits (x .consist .blocks .count) few, number-most (x .brake .state), choice-most (x .brake .choice), bit-fits (x .brake .sampled), o .cause, o .emergency, k .a, k .b, k .equalization, k .fall, k .hold, k .front, k .rear, k .time, k .heard, o .consist .ranged)

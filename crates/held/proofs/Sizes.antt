@@ -13,7 +13,7 @@ use Rattle.held.specs.Held.{size, letter, mark, markFor, hasBlocks, coun
 
 -- ---- sizes
 
-pub size-some : (n : ℕ) → 0 < n → sizeFor n ≡ 45 + 4 * n
+pub size-some : (n : ℕ) → 0 < n → sizeFor n ≡ size + 4 + 4 * n
 size-some zero h = absurd (omega arith)
 size-some (suc n) h = omega arith
 

@@ -1,5 +1,5 @@
 -- "Held: state, set, hold (pipe pressure), A (average auxiliary reservoir), B (average cylinder), equalization, fall per second, last front, last rear, last time":
--- the record of an open session, its reader and its writer. It has a front of 41 bytes; where the consist has blocks, these follow it. Definitions only.
+-- the record of an open session, its reader and its writer; of R-7 it holds the choice and when the rear was last present. It has a front of 44 bytes; where the consist has blocks, these follow it. Definitions only.
 use Prim.Native.Nat.{ℕ, zero, suc, _+_, _-_, _*_}
 use mathlib.Core.List.{List, [], _∷_, _++_}
 use mathlib.Core.Bool.{Bool, true, false, not, _&&_, _||_, cond}
@@ -21,26 +21,28 @@ use Rattle.seal.specs.Seal as seal
 use Rattle.blocks.specs.Blocks as blocks
 use Rattle.consist.specs.declared.Consist.{Consist}
 use Rattle.consist.specs.Consist as consist
+use Rattle.brake.specs.declared.Brake.{Brake}
 use Rattle.brake.specs.State.{stateNumber, stateOf}
+use Rattle.brake.specs.Rear.{choiceNumber, choiceOf, heardNumber, heardOf}
 use Rattle.session.specs.declared.Session.{Session}
 use Rattle.session.specs.Session.{Told, answerTold, isOpen, noneOpen}
 
 -- ---- the layout
 
--- the front, 41 bytes
+-- the front, 44 bytes
 abbrev pub size : ℕ
-size = 41
+size = 44
 
--- of which 21 are the record's own fields; then stand the consist without its blocks, 16, and the check word of these 37
+-- of which 24 are the record's own fields; then stand the consist without its blocks, 16, and the check word of these 40
 abbrev pub own : ℕ
-own = 21
+own = 24
 
--- the mark: the letter B, and behind it the letter U where there are no blocks, else their count
+-- the mark: the letter C, and behind it the letter U where there are no blocks, else their count
 abbrev pub mark : ℕ
-mark = 0x4255
+mark = 0x4355
 
 abbrev pub letter : ℕ
-letter = 0x4200
+letter = 0x4300
 
 abbrev pub markFor : ℕ → ℕ
 markFor zero = mark
@@ -68,36 +70,42 @@ sizeFor n = size + behindFor n
 abbrev pub sizeOf : Session → ℕ
 sizeOf x = sizeFor (x .consist .blocks .count)
 
--- of one with the most, 301; a session buffer has as many, or more
+-- of one with the most, 304; a session buffer has as many, or more
 abbrev pub most : ℕ
 most = sizeFor blocks.most
 
--- mark, the penalty's cause, the emergency's, whether a sample was yet accepted, state, hold, A, B, equalization, fall, last front, last rear, last time
+-- mark, the penalty's cause, the emergency's, whether a sample was yet accepted, the choice, state, when the rear was last present, hold, A, B, equalization, fall, last front, last rear, last time
 abbrev pub fieldsOf : Session → List ℕ
 fieldsOf x =
     let k = x .brake in
-    markFor (x .consist .blocks .count) ∷ x .cause ∷ x .emergency ∷ bit (k .sampled) ∷ stateNumber (k .state) ∷ k .hold ∷ k .a ∷ k .b ∷ k .equalization ∷ k .fall ∷ k .«last_front» ∷ k .«last_rear» ∷ k .«last_time» ∷ []
+    markFor (x .consist .blocks .count) ∷ x .cause ∷ x .emergency ∷ bit (k .sampled) ∷ choiceNumber (k .choice) ∷ stateNumber (k .state) ∷ heardNumber (k .heard) ∷ k .hold ∷ k .a ∷ k .b ∷ k .equalization ∷ k .fall ∷ k .«last_front» ∷ k .«last_rear» ∷ k .«last_time» ∷ []
 
 abbrev pub widths : List ℕ
-widths = 16 ∷ 4 ∷ 4 ∷ 1 ∷ 7 ∷ 16 ∷ 16 ∷ 16 ∷ 16 ∷ 16 ∷ 16 ∷ 16 ∷ 24 ∷ []
+widths = 16 ∷ 4 ∷ 4 ∷ 1 ∷ 1 ∷ 5 ∷ 25 ∷ 16 ∷ 16 ∷ 16 ∷ 16 ∷ 16 ∷ 16 ∷ 16 ∷ 24 ∷ []
+
+-- the air brakes of these fields
+abbrev pub brakeOf : List ℕ → Brake
+brakeOf fs = record {
+  state = stateOf (getD fs 5 0);
+  hold = getD fs 7 0;
+  a = getD fs 8 0;
+  b = getD fs 9 0;
+  equalization = getD fs 10 0;
+  fall = getD fs 11 0;
+  «last_front» = getD fs 12 0;
+  «last_rear» = getD fs 13 0;
+  «last_time» = getD fs 14 0;
+  sampled = eqb (getD fs 3 0) 1;
+  choice = choiceOf (getD fs 4 0);
+  heard = heardOf (getD fs 6 0);
+}
 
 -- the open session of these fields and a consist
 abbrev pub ofFields : List ℕ → Consist → Session
 ofFields fs c = record {
   opened = true;
   consist = c;
-  brake = record {
-    state = stateOf (getD fs 4 0);
-    hold = getD fs 5 0;
-    a = getD fs 6 0;
-    b = getD fs 7 0;
-    equalization = getD fs 8 0;
-    fall = getD fs 9 0;
-    «last_front» = getD fs 10 0;
-    «last_rear» = getD fs 11 0;
-    «last_time» = getD fs 12 0;
-    sampled = eqb (getD fs 3 0) 1;
-  };
+  brake = brakeOf fs;
   cause = getD fs 1 0;
   emergency = getD fs 2 0;
 }
@@ -146,7 +154,7 @@ sessionIn s = ofFields (fieldsAt (frontAt s)) (consist.withBlocks (consist.consi
 
 -- a front that is not sealed, with a wrong mark, or with a state above 5
 unfoldable pub noFront : List ℕ → Bool
-noFront s = not (isSealed s) || wrongMark (getD (fieldsAt s) 0 0) || ltb 5 (getD (fieldsAt s) 4 0)
+noFront s = not (isSealed s) || wrongMark (getD (fieldsAt s) 0 0) || ltb 5 (getD (fieldsAt s) 5 0)
 
 -- so many blocks that are not sealed
 abbrev pub noBehind : ℕ → List ℕ → Bool

@@ -1,5 +1,5 @@
 // The record of an open session, for a customer who keeps the session in bytes from call to call and across a restart: its constants and its reader.
-// Crate `stored` writes it. It has a front of 41 bytes; where the consist has blocks, these follow it, with a check word of their own.
+// Crate `stored` writes it. It has a front of 44 bytes; where the consist has blocks, these follow it, with a check word of their own.
 use blocks::Blocks;
 use brake::Brake;
 use consist::Consist;
@@ -13,20 +13,20 @@ ghost use Prim.Native.Nat.{_≤_};
 ghost use lib.ListN.{length, getD};
 ghost use Rattle.refusal.specs.declared.Refusal.the-variants.{NoSession};
 ghost use Rattle.session.specs.Session.{answerTold};
-ghost use Rattle.held.specs.Held.{hasBlocks, countIn, sizeFor, most, ofFields, fieldsAt, noFront, noRecord, recordAt, refusedWith, readTold, readFront, readSession};
+ghost use Rattle.held.specs.Held.{hasBlocks, countIn, sizeFor, most, brakeOf, ofFields, fieldsAt, noFront, noRecord, recordAt, refusedWith, readTold, readFront, readSession};
 
 // Bytes of the front.
-pub const SIZE: usize = 41;
+pub const SIZE: usize = 44;
 
 // Bytes of its own fields; the consist without its blocks stands behind them, and the check word of both at the end.
-pub const OWN: usize = 21;
+pub const OWN: usize = 24;
 
 pub const BODY: usize = OWN + Consist::SIZE;
 
 // The mark of a record without blocks; with blocks it is their count and what is below it.
-pub const MARK: u64 = 0x4255;
+pub const MARK: u64 = 0x4355;
 
-pub const LETTER: u64 = 0x4200;
+pub const LETTER: u64 = 0x4300;
 
 // Bytes of the longest record; a session buffer has as many, or more.
 pub const MOST: usize = SIZE + Blocks::SIZE * Blocks::MOST + seal::SIZE;
@@ -66,7 +66,7 @@ fn no_front(s: &[u8]) -> bool
     let is_sealed = seal::is_sealed(s);
     let mark = bits::field(s, 0, 16);
     let marked = (mark == MARK) | has_blocks(mark);
-    !is_sealed | !marked | (bits::field(s, 25, 7) > 5)
+    !is_sealed | !marked | (bits::field(s, 26, 5) > 5)
 }
 
 // Not as many bytes as there are with its blocks, no front, or blocks that are not sealed.
@@ -87,26 +87,37 @@ fn no_record(s: &[u8]) -> bool
     front | !is_sealed
 }
 
+// The air brakes of a record's own fields.
+fn brake_of(s: &[u8]) -> Brake
+    ensures { λ r. ⌜ r ≡ brakeOf (fieldsAt (now (s .entry))) ⌝ }
+{
+    let sampled = bits::field(s, 24, 1) == 1;
+    let choice = brake::choice_of(bits::field(s, 25, 1));
+    let state = brake::state_of(bits::field(s, 26, 5));
+    let heard = brake::heard_of(bits::field(s, 31, 25) as u32);
+    Brake {
+        state,
+        hold: bits::field(s, 56, 16) as u16,
+        a: bits::field(s, 72, 16) as u16,
+        b: bits::field(s, 88, 16) as u16,
+        equalization: bits::field(s, 104, 16) as u16,
+        fall: bits::field(s, 120, 16) as u16,
+        last_front: bits::field(s, 136, 16) as u16,
+        last_rear: bits::field(s, 152, 16) as u16,
+        last_time: bits::field(s, 168, 24) as u32,
+        sampled,
+        choice,
+        heard,
+    }
+}
+
 // The open session of a record's own fields and a consist, whatever the mark.
 fn of_bytes(s: &[u8], c: Consist) -> Session
     ensures { λ r. ⌜ r ≡ ofFields (fieldsAt (now (s .entry))) c ⌝ }
 {
     let cause = bits::field(s, 16, 4) as u8;
     let emergency = bits::field(s, 20, 4) as u8;
-    let sampled = bits::field(s, 24, 1) == 1;
-    let state = brake::state_of(bits::field(s, 25, 7));
-    let brake = Brake {
-        state,
-        hold: bits::field(s, 32, 16) as u16,
-        a: bits::field(s, 48, 16) as u16,
-        b: bits::field(s, 64, 16) as u16,
-        equalization: bits::field(s, 80, 16) as u16,
-        fall: bits::field(s, 96, 16) as u16,
-        last_front: bits::field(s, 112, 16) as u16,
-        last_rear: bits::field(s, 128, 16) as u16,
-        last_time: bits::field(s, 144, 24) as u32,
-        sampled,
-    };
+    let brake = brake_of(s);
     Session {
         opened: true,
         consist: c,

@@ -2,14 +2,14 @@
 use mathlib.Core.Path.{refl}
 use Rattle.whole.specs.Floor.{floorDiv}
 use Rattle.whole.specs.Ceiling.{ceilDiv}
-use Rattle.reading.specs.Readings.{elapsedOf, rateOf, rearTaken, nominalOf, readingOf, application, release, emergency}
+use Rattle.reading.specs.Readings.{elapsedOf, rateOf, heardAfter, isKept, lostRear, rearTaken, nominalOf, readingOf, application, release, emergency}
 use Rattle.air.specs.Rules.{startEmergency, startService, startApplying, startCharging, fallInService, fallInEmergency}
 use Rattle.air.specs.Emergency.{emergencyAir}
 use Rattle.update.specs.Rules.{inCharged, recharged, inCharging, fallOrHold, inApplyingService, inHoldingService, inApplyingEmergency, inHoldingEmergency, updateOf}
 use Rattle.laws.specs.BrakeFigures.{BrakeFigures}
 
 pub brake-figures : BrakeFigures
-unfolding floorDiv ceilDiv elapsedOf rateOf rearTaken nominalOf readingOf application release emergency startEmergency startService startApplying startCharging fallInService fallInEmergency inCharged recharged inCharging fallOrHold inApplyingService inHoldingService inApplyingEmergency inHoldingEmergency updateOf emergencyAir
+unfolding floorDiv ceilDiv elapsedOf rateOf heardAfter isKept lostRear rearTaken nominalOf readingOf application release emergency startEmergency startService startApplying startCharging fallInService fallInEmergency inCharged recharged inCharging fallOrHold inApplyingService inHoldingService inApplyingEmergency inHoldingEmergency updateOf emergencyAir
 brake-figures = record {
   half-down = refl;
   rear-higher = refl;
@@ -31,6 +31,12 @@ brake-figures = record {
   no-release = refl;
   emergency-held = refl;
   emergency-released = refl;
+  five-seconds = refl;
+  six-seconds = refl;
+  none-yet = refl;
+  everlasting = refl;
+  everlasting-none-yet = refl;
+  heard-again = refl;
   behind-charged = refl;
   behind-nominal = refl;
   behind-applying = refl;

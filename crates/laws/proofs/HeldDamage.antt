@@ -20,7 +20,7 @@ use Rattle.blocks.specs.Blocks as blocks
 use Rattle.blocks.proofs.Bytes.{length-bytes}
 use Rattle.session.specs.declared.Session.{Session}
 use Rattle.session.specs.Session.{isOpen}
-use Rattle.held.specs.Held.{most, countIn, behindFor, sizeFor, frontOf, behindOf, bytesOf, fieldsAt, frontAt, behindAt, countAt, recordAt, noSession}
+use Rattle.held.specs.Held.{size, most, countIn, behindFor, sizeFor, frontOf, behindOf, bytesOf, fieldsAt, frontAt, behindAt, countAt, recordAt, noSession}
 use Rattle.laws.specs.HeldDamage.{DamageSeen}
 use Rattle.held.proofs.Sizes.{no-buffer, in-buffer, same-front}
 use Rattle.held.proofs.Answers.{IsRecord, held-open, length-sealed, front-size, behind-size, few}
@@ -66,8 +66,8 @@ module _ (x : Session) (o : isOpen x ≡ true) where
   same-count : (t : List ℕ) → frontOf x ≡ frontAt t → countAt t ≡ b .count
   same-count t e = ap (λ (f : List ℕ). countIn (getD (fieldsAt f) 0 0)) (sym e) ∙ front-count x o
 
-  same : (t : List ℕ) → 41 ≤ length t → apart (frontOf x) (frontAt t) ≡ 0 → frontOf x ≡ frontAt t
-  same t m e = none-apart (frontOf x) (frontAt t) (front-size x ∙ sym (length-take-le 41 t m)) e
+  same : (t : List ℕ) → size ≤ length t → apart (frontOf x) (frontAt t) ≡ 0 → frontOf x ≡ frontAt t
+  same t m e = none-apart (frontOf x) (frontAt t) (front-size x ∙ sym (length-take-le size t m)) e
 
   -- a record that differs in so many places of the front, and, where these are none, in so many behind it
   never : (t : List ℕ) (i j : ℕ) → Bytes t → IsRecord t → apart (frontOf x) (frontAt t) ≡ i → (i ≡ 0 → apart behind (behindAt t) ≡ j) → 1 ≤ i + j → i + j ≤ 2 → ⊥
@@ -76,12 +76,12 @@ module _ (x : Session) (o : isOpen x ≡ true) where
       let n = same-count t (same t (omega (arith, r .long)) e) in
       let k : length (behindAt t) ≡ behindFor (countAt t) = simp length-drop (omega (arith, r .long)) in
       let g = f refl in
-      behind-seen (b .count) (blocks.bytesOf b) (behindAt t) (few x o) (length-bytes b) (blocks-bytes b (b .count)) (bytes-drop 41 t bt) (k ∙ ap behindFor n)
+      behind-seen (b .count) (blocks.bytesOf b) (behindAt t) (few x o) (length-bytes b) (blocks-bytes b (b .count)) (bytes-drop size t bt) (k ∙ ap behindFor n)
       (λ some. r .behind (subst (λ (m : ℕ). 0 < m) (sym n) some)) (omega arith) (omega arith)
   never t (suc i) j bt r e f p q =
       true≢false
       (sym (r .front .seal)
-      ∙ unsealed (frontOf x) (frontAt t) (front-bytes x) (bytes-take 41 t bt) (front-size x ∙ sym (length-take-le 41 t (omega (arith, r .long)))) (omega (arith, front-size x)) (front-seal x) (omega arith) (omega arith))
+      ∙ unsealed (frontOf x) (frontAt t) (front-bytes x) (bytes-take size t bt) (front-size x ∙ sym (length-take-le size t (omega (arith, r .long)))) (omega (arith, front-size x)) (front-seal x) (omega arith) (omega arith))
 
   -- ---- and of a session buffer
 
@@ -92,15 +92,15 @@ module _ (x : Session) (o : isOpen x ≡ true) where
     abbrev j : ℕ
     j = apart behind (behindAt s)
 
-    parts : 41 ≤ length s → apart (bytesOf x) s ≡ i + j
+    parts : size ≤ length s → apart (bytesOf x) s ≡ i + j
     unfolding bytesOf
     parts m =
-        ap (λ (t : List ℕ). apart (bytesOf x) t) (sym (take-append-drop 41 s))
-        ∙ apart-append (frontOf x) (frontAt s) behind (behindAt s) (front-size x ∙ sym (length-take-le 41 s m))
+        ap (λ (t : List ℕ). apart (bytesOf x) t) (sym (take-append-drop size s))
+        ∙ apart-append (frontOf x) (frontAt s) behind (behindAt s) (front-size x ∙ sym (length-take-le size s m))
 
     no-record : IsRecord s → ⊥
     no-record r =
-        let m : 41 ≤ length s = omega (arith, r .long) in
+        let m : size ≤ length s = omega (arith, r .long) in
         never s i j bs r refl (λ e. refl) (omega (arith, parts m)) (omega (arith, parts m))
 
     no-start : IsRecord (recordAt s) → ⊥
@@ -110,13 +110,13 @@ module _ (x : Session) (o : isOpen x ≡ true) where
         by (yes l) = omega (arith, r .long, ap length (no-buffer s l))
         by (no l) =
             let m : most ≤ length s = omega arith in
-            let z : 41 ≤ length s = omega arith in
+            let z : size ≤ length s = omega arith in
             let bt : Bytes (recordAt s) = subst Bytes (sym (in-buffer s m)) (bytes-take (sizeFor (countAt s)) s bs) in
             never (recordAt s) i j bt r (ap (apart (frontOf x)) (same-front s m)) (λ e.
             let n = same-count s (same s z e) in
             let cut : behindAt (recordAt s) ≡ take (behindFor (b .count)) (behindAt s) =
-            ap behindAt (in-buffer s m ∙ take-add 41 (behindFor (countAt s)) s)
-            ∙ drop-at (frontAt s) _ 41 (length-take-le 41 s z)
+            ap behindAt (in-buffer s m ∙ take-add size (behindFor (countAt s)) s)
+            ∙ drop-at (frontAt s) _ size (length-take-le size s z)
             ∙ ap (λ (k : ℕ). take (behindFor k) (behindAt s)) n in
             ap (apart behind) (cut ∙ ap (λ (k : ℕ). take k (behindAt s)) (sym (behind-size x))) ∙ apart-take behind (behindAt s))
             (omega (arith, parts z)) (omega (arith, parts z))

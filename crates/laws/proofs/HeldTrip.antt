@@ -34,11 +34,14 @@ use Rattle.consist.proofs.Answers as consist-answers
 use Rattle.consist.proofs.Sound as consist-sound
 use Rattle.brake.specs.State.{stateNumber, stateOf}
 use Rattle.brake.proofs.StateNumbers.{number-most}
+use Rattle.brake.specs.Rear.{choiceNumber, choiceOf, heardNumber, heardOf}
 use Rattle.brake.proofs.Told.{state-back}
+use Rattle.brake.proofs.Rear.{choice-back, heard-back, choice-again, heard-again}
 use Rattle.session.specs.declared.Session.{Session}
 use Rattle.session.specs.Session.{isOpen, noneOpen}
 use Rattle.session.proofs.Opened.{opened}
-use Rattle.held.specs.Held.{markFor, countIn, wrongMark, behindFor, sizeFor, sizeOf, most, widths, fieldsOf, ofFields, frontOf, behindOf, bytesOf, fieldsAt, frontAt, behindAt, countAt, blocksAt, consistAt, recordAt, sessionIn, noFront, noBehind, noRecord, isBroken, noSession, answer, readSession, writeSession}
+use Rattle.held.specs.Held as held
+use Rattle.held.specs.Held.{size, markFor, countIn, wrongMark, behindFor, sizeFor, sizeOf, most, widths, fieldsOf, ofFields, frontOf, behindOf, bytesOf, fieldsAt, frontAt, behindAt, countAt, blocksAt, consistAt, recordAt, sessionIn, noFront, noBehind, noRecord, isBroken, noSession, answer, readSession, writeSession}
 use Rattle.laws.specs.HeldTrip.{WrittenReadsBack, AcceptedWritesBack, BytesTell}
 use Rattle.held.proofs.Sizes.{count-back, mark-right, in-buffer}
 use Rattle.held.proofs.Answers.{IsRecord, read-is, read-inv, front-size, size-of, write-accepted, write-inv, few, fits}
@@ -56,18 +59,20 @@ to-number (suc (suc (suc (suc (suc (suc n)))))) h = absurd (omega arith)
 
 -- its fields tell it
 of-fields : (x : Session) → isOpen x ≡ true → ofFields (fieldsOf x) (x .consist) ≡ x
-of-fields x h = rw (state-back (x .brake .state), of-bit (x .brake .sampled), sym (opened x h .opened))
+of-fields x h =
+    let k = x .brake in
+    rw (state-back (k .state), of-bit (k .sampled), choice-back (k .choice), heard-back (k .heard), sym (opened x h .opened))
 
 -- ---- the bytes of a session
 
--- the fields that a front begins with are those of its first 21 bytes
-fields-at : (s : List ℕ) → Bytes s → length s ≡ 41 → fieldsAt s ≡ fieldsIn widths (take 21 s)
+-- the fields that a front begins with are those of its own bytes
+fields-at : (s : List ℕ) → Bytes s → length s ≡ size → fieldsAt s ≡ fieldsIn widths (take held.own s)
 fields-at s b l =
-    let rest : length (drop 21 s) ≡ 20 = simp length-drop (omega (arith, l)) in
-    ap (take 13)
+    let rest : length (drop held.own s) ≡ 20 = simp length-drop (omega (arith, l)) in
+    ap (take 15)
     (fields-from 0 (widths ++ eights 20) s tt (omega (arith, l))
-    ∙ ap (fieldsIn (widths ++ eights 20)) (sym (take-append-drop 21 s))
-    ∙ fields-append widths (eights 20) (take 21 s) (drop 21 s) (bytes-drop 21 s b) (λ i. total (eights (sym rest i))))
+    ∙ ap (fieldsIn (widths ++ eights 20)) (sym (take-append-drop held.own s))
+    ∙ fields-append widths (eights 20) (take held.own s) (drop held.own s) (bytes-drop held.own s b) (λ i. total (eights (sym rest i))))
 
 pub blocks-bytes : (b : Blocks) (n : ℕ) → Bytes (bytesTo b n)
 unfolding bytesTo
@@ -110,7 +115,7 @@ module _ (x : Session) where
   front-bytes =
       let own = join widths (fieldsOf x) in
       let rest = join consist.widths (consist.fieldsOf (x .consist)) in
-      sealed-bytes (split (eights 21) own ++ split (eights 16) rest) (append-bytes (split (eights 21) own) (split (eights 16) rest) (split-bytes 21 own) (split-bytes 16 rest))
+      sealed-bytes (split (eights held.own) own ++ split (eights 16) rest) (append-bytes (split (eights held.own) own) (split (eights 16) rest) (split-bytes held.own own) (split-bytes 16 rest))
 
   pub front-seal : isSealed (frontOf x) ≡ true
   unfolding frontOf SealedFound
@@ -122,16 +127,16 @@ module _ (x : Session) where
 
   pub front-is : frontAt (bytesOf x) ≡ frontOf x
   unfolding bytesOf
-  front-is = take-at (frontOf x) behind 41 (front-size x)
+  front-is = take-at (frontOf x) behind size (front-size x)
 
   pub behind-is : behindAt (bytesOf x) ≡ behind
   unfolding bytesOf
-  behind-is = drop-at (frontOf x) behind 41 (front-size x)
+  behind-is = drop-at (frontOf x) behind size (front-size x)
 
   module _ (o : isOpen x ≡ true) where
     front-fields : fieldsAt (frontOf x) ≡ fieldsOf x
     unfolding frontOf sealed consist.frontOf
-    front-fields = fields-at (frontOf x) front-bytes (front-size x) ∙ fields-of-bytes 21 widths refl (fieldsOf x) (fits x o)
+    front-fields = fields-at (frontOf x) front-bytes (front-size x) ∙ fields-of-bytes held.own widths refl (fieldsOf x) (fits x o)
 
     pub front-count : countIn (getD (fieldsAt (frontOf x)) 0 0) ≡ b .count
     front-count = ap (λ (fs : List ℕ). countIn (getD fs 0 0)) front-fields ∙ count-back (b .count) (few x o)
@@ -167,7 +172,7 @@ module _ (x : Session) where
     unfolding noFront
     a-front =
         rw front-seal
-        (subst (λ (fs : List ℕ). wrongMark (getD fs 0 0) || ltb 5 (getD fs 4 0) ≡ false) (sym front-fields)
+        (subst (λ (fs : List ℕ). wrongMark (getD fs 0 0) || ltb 5 (getD fs 5 0) ≡ false) (sym front-fields)
         (ap₂ _||_ (mark-right (b .count) (few x o)) (le-ltb 5 _ (number-most (x .brake .state)))))
 
     a-record : noRecord (bytesOf x) ≡ false
@@ -192,7 +197,7 @@ module _ (x : Session) where
     pub start-is : (z : List ℕ) → most ≤ length (bytesOf x ++ z) → recordAt (bytesOf x ++ z) ≡ bytesOf x
     start-is z room =
         let n : countAt (bytesOf x ++ z) ≡ b .count =
-        ap (λ (s : List ℕ). countIn (getD (fieldsAt s) 0 0)) (take-append-le 41 (bytesOf x) z (omega (arith, size-of x)) ∙ front-is) ∙ front-count in
+        ap (λ (s : List ℕ). countIn (getD (fieldsAt s) 0 0)) (take-append-le size (bytesOf x) z (omega (arith, size-of x)) ∙ front-is) ∙ front-count in
         in-buffer (bytesOf x ++ z) room
         ∙ ap (λ (k : ℕ). take (sizeFor k) (bytesOf x ++ z)) n
         ∙ take-at (bytesOf x) z (sizeOf x) (size-of x)
@@ -212,20 +217,22 @@ bytes-tell x y o p h = sym (stands x o) ∙ ap sessionIn h ∙ stands y p
 -- ---- the bits of what is accepted
 
 -- the fields of a number that begins with this mark and has a state's number
-to-fields : (n : ℕ) (c : Consist) → (getD (split widths n) 0 0 ≡ markFor (c .blocks .count)) × (getD (split widths n) 4 0 ≤ 5)
+to-fields : (n : ℕ) (c : Consist) → (getD (split widths n) 0 0 ≡ markFor (c .blocks .count)) × (getD (split widths n) 5 0 ≤ 5)
     → fieldsOf (ofFields (split widths n) c) ≡ split widths n
 to-fields n c h =
     let fs = split widths n in
     let sampled = to-bit (getD fs 3 0) (split-fit widths n .1 .1 .1 .0) in
-    let state = to-number (getD fs 4 0) (h .1) in
-    λ i. sym (h .0) i ∷ getD fs 1 0 ∷ getD fs 2 0 ∷ sampled i ∷ state i ∷ getD fs 5 0 ∷ getD fs 6 0 ∷ getD fs 7 0 ∷ getD fs 8 0 ∷ getD fs 9 0 ∷ getD fs 10 0 ∷ getD fs 11 0 ∷ getD fs 12 0 ∷ []
+    let choice = choice-again (getD fs 4 0) (split-fit widths n .1 .1 .1 .1 .0) in
+    let state = to-number (getD fs 5 0) (h .1) in
+    let heard = heard-again (getD fs 6 0) in
+    λ i. sym (h .0) i ∷ getD fs 1 0 ∷ getD fs 2 0 ∷ sampled i ∷ choice i ∷ state i ∷ heard i ∷ getD fs 7 0 ∷ getD fs 8 0 ∷ getD fs 9 0 ∷ getD fs 10 0 ∷ getD fs 11 0 ∷ getD fs 12 0 ∷ getD fs 13 0 ∷ getD fs 14 0 ∷ []
 
 -- the consist stands in the front
-in-front : (s : List ℕ) → 41 ≤ length s → take 16 (drop 21 (take 41 s)) ≡ take 16 (drop 21 s)
+in-front : (s : List ℕ) → size ≤ length s → take 16 (drop held.own (take size s)) ≡ take 16 (drop held.own s)
 in-front s h =
-    ap (λ (t : List ℕ). take 16 (drop 21 t)) (take-add 21 20 s)
-    ∙ ap (take 16) (drop-at (take 21 s) (take 20 (drop 21 s)) 21 (length-take-le 21 s (omega arith)))
-    ∙ take-take 16 20 (drop 21 s) (omega arith)
+    ap (λ (t : List ℕ). take 16 (drop held.own t)) (take-add held.own 20 s)
+    ∙ ap (take 16) (drop-at (take held.own s) (take 20 (drop held.own s)) held.own (length-take-le held.own s (omega arith)))
+    ∙ take-take 16 20 (drop held.own s) (omega arith)
 
 -- what stands behind a front is its blocks, so many, with their check word
 behind-found : (n : ℕ) (s : List ℕ) → Bytes s → length s ≡ behindFor n → (0 < n → isSealed s ≡ true) → behindOf n (take (4 * n) s) ≡ s
@@ -261,32 +268,32 @@ module _ (s : List ℕ) (by : Bytes s) (r : IsRecord s) (right : isBroken s ≡ 
   same-front =
       let c = consist.withBlocks (consist.consistIn (consistAt s)) (layOf (blocksAt s)) in
       let f = frontAt s in
-      let bf = bytes-take 41 s by in
-      let l : length f ≡ 41 = length-take-le 41 s (omega (arith, r .long)) in
+      let bf = bytes-take size s by in
+      let l : length f ≡ size = length-take-le size s (omega (arith, r .long)) in
       let at = fields-at f bf l in
-      let k : length (take 21 f) ≡ 21 = simp length-take (omega (arith, l)) in
+      let k : length (take held.own f) ≡ held.own = simp length-take (omega (arith, l)) in
       let own =
-      (λ i. bytesFrom 21 widths (fieldsOf (ofFields (at i) c)))
-      ∙ ap (bytesFrom 21 widths)
-      (to-fields (num (take 21 f)) c
-      (subst (λ (fs : List ℕ). (getD fs 0 0 ≡ markFor (c .blocks .count)) × (getD fs 4 0 ≤ 5)) at (r .front .marked ∙ ap markFor (sym laid-many), r .front .state)))
-      ∙ bytes-of-fields 21 widths refl (take 21 f) (bytes-take 21 f bf) k in
+      (λ i. bytesFrom held.own widths (fieldsOf (ofFields (at i) c)))
+      ∙ ap (bytesFrom held.own widths)
+      (to-fields (num (take held.own f)) c
+      (subst (λ (fs : List ℕ). (getD fs 0 0 ≡ markFor (c .blocks .count)) × (getD fs 5 0 ≤ 5)) at (r .front .marked ∙ ap markFor (sym laid-many), r .front .state)))
+      ∙ bytes-of-fields held.own widths refl (take held.own f) (bytes-take held.own f bf) k in
       let m : length (take 16 (consistAt s)) ≡ 16 = simp (length-take, length-drop) (omega (arith, r .long)) in
       let behind =
-      bytes-of-fields 16 consist.widths refl (take 16 (consistAt s)) (bytes-take 16 (consistAt s) (bytes-take 16 (drop 21 s) (bytes-drop 21 s by))) m
-      ∙ take-take 16 16 (drop 21 s) (omega arith)
+      bytes-of-fields 16 consist.widths refl (take 16 (consistAt s)) (bytes-take 16 (consistAt s) (bytes-take 16 (drop held.own s) (bytes-drop held.own s by))) m
+      ∙ take-take 16 16 (drop held.own s) (omega arith)
       ∙ sym (in-front s (omega (arith, r .long))) in
-      ap sealed (ap₂ _++_ own behind ∙ sym (take-add 21 16 f) ∙ (λ i. take (sym l i - 4) f))
+      ap sealed (ap₂ _++_ own behind ∙ sym (take-add held.own 16 f) ∙ (λ i. take (sym l i - 4) f))
       ∙ sym (found-sealed f bf (r .front .seal))
 
   same-behind : behindOf (layOf (blocksAt s) .count) (blocks.bytesOf (layOf (blocksAt s))) ≡ behindAt s
   same-behind =
-      ap₂ behindOf laid-many (blocks-back.laid-back (blocksAt s) laid (bytes-take (4 * n) (behindAt s) (bytes-drop 41 s by)))
-      ∙ behind-found n (behindAt s) (bytes-drop 41 s by) behind-long (r .behind)
+      ap₂ behindOf laid-many (blocks-back.laid-back (blocksAt s) laid (bytes-take (4 * n) (behindAt s) (bytes-drop size s by)))
+      ∙ behind-found n (behindAt s) (bytes-drop size s by) behind-long (r .behind)
 
   same-bits : bytesOf (sessionIn s) ≡ s
   unfolding bytesOf sessionIn
-  same-bits = ap₂ _++_ same-front same-behind ∙ take-append-drop 41 s
+  same-bits = ap₂ _++_ same-front same-behind ∙ take-append-drop size s
 
 pub accepted-writes-back : AcceptedWritesBack
 unfolding AcceptedWritesBack readSession

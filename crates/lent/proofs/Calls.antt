@@ -21,6 +21,7 @@ use Rattle.refusal.proofs.Numbers.{verdict-accepted}
 use Rattle.refusal.proofs.Steps.{firstOf, in-order}
 use Rattle.consist.specs.Consist.{consistIn, tooShort, outOfRange, tooLight, brokenBehind, readRules, readConsist}
 use Rattle.consist.specs.Consist as consist
+use Rattle.brake.specs.declared.Choice.{Choice}
 use Rattle.session.specs.declared.Session.{Session}
 use Rattle.session.specs.declared.Answer.{Answer}
 use Rattle.session.specs.Session.{isOpen, noneOpen, callTold}
@@ -99,14 +100,14 @@ with-room-none true (suc n) h = absurd (by (eqb (suc n) 0 || leb 12 (suc n)) h)
     by true e = omega arith
     by false e = omega arith
 
-module _ (c : List ℕ) where
+module _ (c : List ℕ) (choice : Choice) where
   -- what its consist is told by itself
   abbrev pub alone : ℕ
-  alone = numberOfVerdict (openOf noneOpen c .verdict)
+  alone = numberOfVerdict (openOf noneOpen c choice .verdict)
 
-  open-answers : lowest (readRules c) ≡ Accepted → openOf noneOpen c ≡ record { session = openedWith (consistIn c); verdict = Accepted }
+  open-answers : lowest (readRules c) ≡ Accepted → openOf noneOpen c choice ≡ record { session = openedWith (consistIn c) choice; verdict = Accepted }
   unfolding openOf readConsist
-  open-answers h = ap (λ (v : Verdict). openedBy noneOpen (consist.answer v (consistIn c))) h
+  open-answers h = ap (λ (v : Verdict). openedBy noneOpen (consist.answer v (consistIn c)) choice) h
 
   module _ (s : List ℕ) where
     open-number : numberOfVerdict (lowest (openRules c s)) ≡ withRoom alone (length s)
@@ -116,11 +117,11 @@ module _ (c : List ℕ) where
         ∙ between (tooShort c) (outOfRange (consistIn c)) (tooLight (consistIn c)) (noRoom most s) (brokenBehind c)
         ∙ sym (ap (λ (v : Verdict). withRoom (numberOfVerdict v) (length s)) (in-order (readRules c) tt))
 
-    pub open-refused : {n : ℕ} → n ≡ withRoom alone (length s) → (n ≡ 0 → ⊥) → (n, s) ≡ openBytes c s
+    pub open-refused : {n : ℕ} → n ≡ withRoom alone (length s) → (n ≡ 0 → ⊥) → (n, s) ≡ openBytes c s choice
     unfolding openBytes
     open-refused {n} h some = by (lowest (openRules c s)) (h ∙ sym open-number)
       where
-        by : (v : Verdict) → n ≡ numberOfVerdict v → (n, s) ≡ told (written v (bufferOf (openedWith (consistIn c))) s)
+        by : (v : Verdict) → n ≡ numberOfVerdict v → (n, s) ≡ told (written v (bufferOf (openedWith (consistIn c) choice)) s)
         by Accepted e = absurd (some e)
         by (Refused r) e = ap (λ (m : ℕ). (m, s)) e
 
@@ -132,14 +133,14 @@ module _ (c : List ℕ) where
       unfolding openOf readConsist
       consist-right = verdict-accepted (lowest (readRules c)) (with-room-none (ltb (length s) most) alone h .1)
 
-      pub opened-open : isOpen (openOf noneOpen c .session) ≡ true
+      pub opened-open : isOpen (openOf noneOpen c choice .session) ≡ true
       unfolding OpensOpen
-      opened-open = opens-open noneOpen c (ap (λ (a : Answer). a .verdict) (open-answers consist-right))
+      opened-open = opens-open noneOpen c choice (ap (λ (a : Answer). a .verdict) (open-answers consist-right))
 
-      pub open-accepted : {left : List ℕ} → left ≡ bufferOf (openOf noneOpen c .session) ++ drop most s → (0, left) ≡ openBytes c s
+      pub open-accepted : {left : List ℕ} → left ≡ bufferOf (openOf noneOpen c choice .session) ++ drop most s → (0, left) ≡ openBytes c s choice
       unfolding openBytes
       open-accepted e =
-          let x = openedWith (consistIn c) in
+          let x = openedWith (consistIn c) choice in
           ap (λ (l : List ℕ). (0, l))
           (e
           ∙ ap (λ (a : Answer). bufferOf (a .session) ++ drop most s) (open-answers consist-right)

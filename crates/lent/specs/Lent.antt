@@ -12,13 +12,14 @@ use Rattle.refusal.specs.declared.Refusal.the-variants.{NoSession, WrongLength,
 use Rattle.refusal.specs.declared.Verdict.{Verdict}
 use Rattle.refusal.specs.declared.Verdict.the-variants.{Accepted, Refused}
 use Rattle.consist.specs.Consist.{consistIn, tooShort, rules, brokenBehind}
+use Rattle.brake.specs.declared.Choice.{Choice}
 use Rattle.session.specs.declared.Session.{Session}
 use Rattle.session.specs.declared.Answer.{Answer}
 use Rattle.session.specs.Open.{openedWith}
 use Rattle.sampling.specs.Sample.{linesOf, sampleCall}
 use Rattle.held.specs.Held.{most, recordAt, sessionIn, bytesOf, noSession, readSession}
 
--- a session's buffer: its record, and zeros behind it, 301 bytes in all
+-- a session's buffer: its record, and zeros behind it, 304 bytes in all
 abbrev pub zeros : ℕ → List ℕ
 zeros n = replicate n 0
 
@@ -36,8 +37,8 @@ sampleRules session sample profile targets decision =
     (noSession (recordAt session), NoSession) ∷ linesOf (sessionIn (recordAt session)) sample profile targets decision
 
 -- the new session's buffer, and the bytes past it as they were; "if refused, an earlier session stays as it was"
-unfoldable pub openBytes : (consist session : List ℕ) → ℕ × List ℕ
-openBytes consist session = told (written (lowest (openRules consist session)) (bufferOf (openedWith (consistIn consist))) session)
+unfoldable pub openBytes : (consist session : List ℕ) → Choice → ℕ × List ℕ
+openBytes consist session choice = told (written (lowest (openRules consist session)) (bufferOf (openedWith (consistIn consist) choice)) session)
 
 -- for an inner contract: what an opening is told where its consist, by itself, is told this; of several the lowest, and 0 is none
 abbrev pub withRoom : (told room : ℕ) → ℕ

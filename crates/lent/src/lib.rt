@@ -1,5 +1,6 @@
-// A session in lent bytes, its buffer: its record, which crates `held` and `stored` read and write, stands at their start, and zeros behind it, 301 bytes
+// A session in lent bytes, its buffer: its record, which crates `held` and `stored` read and write, stands at their start, and zeros behind it, 304 bytes
 // in all. No call reads a byte past the record or writes one past these. An answer is the refusal's number, 0 for none.
+use brake::Choice;
 use held::MOST;
 use refusal::Refusal;
 use refusal::Verdict;
@@ -22,7 +23,7 @@ fn clear(s: &mut [u8])
     }
 }
 
-// Puts the session's buffer over the first 301 bytes.
+// Puts the session's buffer over the first 304 bytes.
 fn put(x: Session, session: &mut [u8])
     requires opened { ⌜ isOpen x ≡ true ⌝ }
     requires room { ⌜ most ≤ length (now session) ⌝ }
@@ -44,11 +45,11 @@ fn with_room(told: u8, room: usize) -> u8
     told
 }
 
-// Opens a session anew with the consist: puts its buffer over the start of `session`.
-pub fn open(session: &mut [u8], consist: &[u8]) -> u8
-    ensures { λ r. ⌜ (r, now (session .exit)) ≡ openBytes (now (consist .entry)) (now (session .entry)) ⌝ }
+// Opens a session anew with the consist and the choice: puts its buffer over the start of `session`.
+pub fn open(session: &mut [u8], consist: &[u8], choice: Choice) -> u8
+    ensures { λ r. ⌜ (r, now (session .exit)) ≡ openBytes (now (consist .entry)) (now (session .entry)) choice ⌝ }
 {
-    let answer = session::open(session::none(), consist);
+    let answer = session::open(session::none(), consist, choice);
     let verdict = answer.verdict;
     let told = refusal::verdict_number(verdict);
     let number = with_room(told, session.len());

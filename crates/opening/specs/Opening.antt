@@ -1,7 +1,8 @@
 -- "consist, two-byte record count (high byte first) and profile, one-byte count and targets", and behind the consist (02, R-1) "a one-byte block count
 -- follows the consist": what a count announces, and when a list is taken. Definitions only.
+use mathlib.Core.Path.{_≡_}
 use Prim.Native.Nat.{ℕ, _*_}
-use mathlib.Core.List.{List}
+use mathlib.Core.List.{List, [], _∷_}
 use mathlib.Core.Bool.{Bool, true, false, _&&_, cond}
 use lib.ListN.{length}
 use lib.Dec.{leb, eqb}
@@ -13,6 +14,14 @@ use Rattle.profile.specs.Profile as profile
 use Rattle.targets.specs.Targets as targets
 use Rattle.opening.specs.declared.Part.{Part}
 use Rattle.opening.specs.declared.Part.the-variants.{Bytes, Broken}
+
+-- 02, R-7: the word that asks for "the old choice in the opening", `everlasting`
+abbrev pub everlasting : List ℕ
+everlasting = 101 ∷ 118 ∷ 101 ∷ 114 ∷ 108 ∷ 97 ∷ 115 ∷ 116 ∷ 105 ∷ 110 ∷ 103 ∷ []
+
+-- an answer that is yes where something holds, and nowhere else
+abbrev pub Tells : Bool → Type 0 → Type 0
+Tells r P = (r ≡ true → P) × (P → r ≡ true)
 
 -- how many bytes a part has
 abbrev pub bytesIn : Part → ℕ

@@ -1,4 +1,4 @@
-// What opens a feed: the counts, and the lists that they announce.
+// What opens a feed: the word that asks for a choice, the counts, and the lists that they announce.
 use blocks::Blocks;
 use profile::Segment;
 use refusal::Verdict;
@@ -7,7 +7,7 @@ ghost use mathlib.Core.Path.{_≡_};
 ghost use mathlib.Core.Bool.{_&&_};
 ghost use Prim.Native.Nat.{_*_, _^_, _<_, _≤_};
 ghost use lib.Dec.{leb};
-ghost use Rattle.opening.specs.Opening.{announced, blocksAhead, profileAhead, targetsAhead, isAccepted, taken, blocksTaken, profileTaken, targetsTaken};
+ghost use Rattle.opening.specs.Opening.{Tells, everlasting, announced, blocksAhead, profileAhead, targetsAhead, isAccepted, taken, blocksTaken, profileTaken, targetsTaken};
 
 // Bytes of the count that stands before each list.
 pub const BLOCKS_COUNT_SIZE: usize = 1;
@@ -27,6 +27,13 @@ pub const TARGETS_ROOM: usize = Target::SIZE * Target::MOST;
 pub enum Part {
     Bytes(usize),
     Broken,
+}
+
+// Whether a word asks for the everlasting choice: a feed does not carry the choice, and no other word asks for one.
+pub fn is_everlasting(word: &[u8]) -> bool
+    ensures { λ r. ⌜ Tells r (now (word .entry) ≡ everlasting) ⌝ }
+{
+    check::same(word, b"everlasting")
 }
 
 // What a count of `width` bytes announces: from `least` to `most` records of `size` bytes.

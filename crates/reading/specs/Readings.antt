@@ -1,13 +1,17 @@
 -- What a sample brings, counted from the one before. Definitions only.
-use Prim.Native.Nat.{ℕ, _-_, _/_}
-use mathlib.Core.Bool.{Bool, cond, _||_}
-use lib.Dec.{ltb}
+use Prim.Native.Nat.{ℕ, _+_, _-_, _/_}
+use mathlib.Core.Bool.{Bool, false, cond, _||_}
+use lib.Dec.{leb, ltb}
 use lib.IntN.{ℤ, pos, negℤ, _-ℤ_}
 use lib.Signed.{ltZ, leZ}
 use Rattle.whole.specs.Floor.{floorDiv}
 use Rattle.consist.specs.declared.Consist.{Consist}
 use Rattle.sample.specs.declared.RearPressure.{RearPressure}
 use Rattle.sample.specs.declared.RearPressure.the-variants.{Present, Lost}
+use Rattle.brake.specs.declared.Choice.{Choice}
+use Rattle.brake.specs.declared.Choice.the-variants.{FiveSeconds, Everlasting}
+use Rattle.brake.specs.declared.Heard.{Heard}
+use Rattle.brake.specs.declared.Heard.the-variants.{Never, At}
 use Rattle.brake.specs.declared.Brake.{Brake}
 use Rattle.reading.specs.declared.Reading.{Reading}
 
@@ -19,10 +23,25 @@ elapsedOf k time = cond (k .sampled) (time - k .«last_time») 0
 unfoldable pub rateOf : Brake → ℕ → ℕ → ℤ
 rateOf k time front = cond (k .sampled) (floorDiv (pos front -ℤ pos (k .«last_front»)) (pos (elapsedOf k time))) (pos 0)
 
--- "A lost rear counts as the last rear, or as front in the first sample"
-unfoldable pub rearTaken : Brake → ℕ → RearPressure → ℕ
-rearTaken k front (Present rear) = rear
-rearTaken k front Lost = cond (k .sampled) (k .«last_rear») front
+-- R-7: "since the last present value"; of this sample on, a present rear's time, else as it was
+unfoldable pub heardAfter : Heard → ℕ → RearPressure → Heard
+heardAfter heard time (Present rear) = At time
+heardAfter heard time Lost = heard
+
+-- a value is kept, but "when more than 5 seconds have passed since the last present value, or there was none yet"
+unfoldable pub isKept : Heard → ℕ → Bool
+isKept Never time = false
+isKept (At at) time = leb time (at + 5)
+
+-- what a lost rear counts as. By default, "as equal to front" where none is kept; the value that is kept is held as last rear.
+-- By the old choice "A lost rear counts as the last rear, or as front in the first sample".
+unfoldable pub lostRear : Choice → Brake → ℕ → ℕ → ℕ
+lostRear FiveSeconds k time front = cond (isKept (k .heard) time) (k .«last_rear») front
+lostRear Everlasting k time front = cond (k .sampled) (k .«last_rear») front
+
+unfoldable pub rearTaken : Brake → ℕ → ℕ → RearPressure → ℕ
+rearTaken k time front (Present rear) = rear
+rearTaken k time front Lost = lostRear (k .choice) k time front
 
 -- "Nominal = set minus half of (front minus rear), the half down; the difference is 0 where rear is higher, and nominal is not below 0":
 -- a difference of natural numbers is 0 where it would be below 0
@@ -46,8 +65,8 @@ unfoldable pub readingOf : Consist → Brake → ℕ → ℕ → RearPressure �
 readingOf c k time front rear = record {
   elapsed = elapsedOf k time;
   front = front;
-  rear = rearTaken k front rear;
-  nominal = nominalOf (c .set) front (rearTaken k front rear);
+  rear = rearTaken k time front rear;
+  nominal = nominalOf (c .set) front (rearTaken k time front rear);
   application = application (rateOf k time front) (k .hold) front;
   release = release (rateOf k time front);
   emergency = emergency (rateOf k time front);

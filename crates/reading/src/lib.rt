@@ -1,9 +1,11 @@
 // What a sample brings, counted from the one before.
 use brake::Brake;
+use brake::Choice;
+use brake::Heard;
 use consist::Consist;
 use sample::RearPressure;
 ghost use mathlib.Core.Path.{_≡_};
-ghost use Rattle.reading.specs.Readings.{elapsedOf, rateOf, rearTaken, nominalOf, application, release, emergency, readingOf};
+ghost use Rattle.reading.specs.Readings.{elapsedOf, rateOf, heardAfter, isKept, lostRear, rearTaken, nominalOf, application, release, emergency, readingOf};
 
 // What the rules read of a sample.
 pub struct Reading {
@@ -36,12 +38,48 @@ fn rate(k: Brake, time: u32, front: u16) -> i64
     whole::floor_div(front as i64 - k.last_front as i64, elapsed as i64)
 }
 
-fn rear_taken(k: Brake, front: u16, rear: RearPressure) -> u16
-    ensures { λ r. ⌜ r ≡ rearTaken k front rear ⌝ }
+// When the rear was last present, from this sample on.
+pub fn heard(before: Heard, time: u32, rear: RearPressure) -> Heard
+    ensures { λ r. ⌜ r ≡ heardAfter before time rear ⌝ }
+{
+    match rear {
+        RearPressure::Present(_) => Heard::At(time),
+        RearPressure::Lost => before,
+    }
+}
+
+// Whether the last present value is at most 5 seconds old.
+fn is_kept(heard: Heard, time: u32) -> bool
+    ensures { λ t. ⌜ t ≡ isKept heard time ⌝ }
+{
+    match heard {
+        Heard::Never => false,
+        Heard::At(at) => time as u64 <= at as u64 + 5,
+    }
+}
+
+// What a lost rear counts as.
+fn lost_rear(k: Brake, time: u32, front: u16) -> u16
+    ensures { λ r. ⌜ r ≡ lostRear (k .choice) k time front ⌝ }
+{
+    let choice = k.choice;
+    let heard = k.heard;
+    match choice {
+        Choice::FiveSeconds => if is_kept(heard, time) {
+            k.last_rear
+        } else {
+            front
+        },
+        Choice::Everlasting => if k.sampled { k.last_rear } else { front },
+    }
+}
+
+fn rear_taken(k: Brake, time: u32, front: u16, rear: RearPressure) -> u16
+    ensures { λ r. ⌜ r ≡ rearTaken k time front rear ⌝ }
 {
     match rear {
         RearPressure::Present(pressure) => pressure,
-        RearPressure::Lost => if k.sampled { k.last_rear } else { front },
+        RearPressure::Lost => lost_rear(k, time, front),
     }
 }
 
@@ -75,7 +113,7 @@ fn is_emergency(rate: i64) -> bool
 pub fn of_sample(k: Brake, c: Consist, time: u32, front: u16, rear: RearPressure) -> Reading
     ensures { λ r. ⌜ r ≡ readingOf c k time front rear ⌝ }
 {
-    let rear = rear_taken(k, front, rear);
+    let rear = rear_taken(k, time, front, rear);
     let rate = rate(k, time, front);
     Reading {
         elapsed: elapsed(k, time),

@@ -45,13 +45,13 @@ hold-one σ (b ∷ bs) (c ∷ cs) (d ∷ ds) h k =
     ap₂ (λ (z : List ℕ) (zs : List (List ℕ)). z ∷ zs) (loads-one σ (b .block) (b .offset) c d (h .0 ∙ sym (k .0)) (h .1) (k .1))
     (hold-one σ bs cs ds (h .2) (k .2))
 
-pub gives-one : (code : Routine) (σ : Memory) (vs : List Val) (bs : List Buffer) (u v : Val)
-    (cs ds : List (List ℕ)) → Gives code σ vs bs u cs → Gives code σ vs bs v ds
+pub gives-one : (code : Routine) (σ : Memory) (vs : List Val) (bs : List Buffer) (us : List Val) (u v : Val)
+    (cs ds : List (List ℕ)) → Gives code σ vs bs us u cs → Gives code σ vs bs us v ds
     → _≡_ {A = Val × List (List ℕ)} (u, cs) (v, ds)
-gives-one code σ vs bs u v cs ds g h =
+gives-one code σ vs bs us u v cs ds g h =
     ∥∥₁-elim g (coded-set (coded× codedVal (codedList (codedList codedℕ))) (u, cs) (v, ds)) (λ x.
     ∥∥₁-elim h (coded-set (coded× codedVal (codedList (codedList codedℕ))) (u, cs) (v, ds)) (λ y.
-    let e : _≡_ {A = Val × Memory} (u, x .1) (v, y .1) = ends-one code (vs ++ map passed bs) σ (u, x .1) (v, y .1) (x .0, x .2) (y .0, y .2) in
+    let e : _≡_ {A = Val × Memory} (u, x .1) (v, y .1) = ends-one code (vs ++ (map passed bs ++ us)) σ (u, x .1) (v, y .1) (x .0, x .2) (y .0, y .2) in
     ap₂ (λ (k : Val) (zs : List (List ℕ)). (k, zs)) (ap (λ (z : Val × Memory). z .0) e)
     (hold-one (y .1) bs cs ds (subst (λ (τ : Memory). hold τ bs cs) (ap (λ (z : Val × Memory). z .1) e) (x .3)) (y .3))))
 

@@ -2,7 +2,8 @@
 use mathlib.Core.Path.{_≡_, refl, sym, _∙_, ap, ap₂, subst}
 use mathlib.Core.Bool.{Bool, true, false}
 use mathlib.Core.List.{List, [], _∷_, map}
-use Prim.Native.Nat.{ℕ, zero, suc, _<_, _^_}
+use Prim.Native.Nat.{ℕ, zero, suc, _≤_, _<_, _^_}
+use native.Mathlib.Omega.{arith}
 use lib.Dec.{lit<}
 use lib.ListN.{length, getD}
 use mir.Syntax.{Width, w8, w16, w32}
@@ -31,7 +32,16 @@ use Rattle.consist.proofs.Consist as consist-type
 use Rattle.consist.proofs.Consist.Laws as consist-value
 use Rattle.brake.specs.declared.State.{State}
 use Rattle.brake.specs.declared.State.the-variants.{Charged, ApplyingService, HoldingService, ApplyingEmergency, HoldingEmergency, Charging}
+use Rattle.brake.specs.declared.Choice.{Choice}
+use Rattle.brake.specs.declared.Choice.the-variants.{FiveSeconds, Everlasting}
+use Rattle.brake.specs.declared.Heard.{Heard}
+use Rattle.brake.specs.declared.Heard.the-variants.{Never, At}
 use Rattle.brake.specs.State.{stateNumber}
+use Rattle.brake.specs.Rear.{choiceNumber, heardNumber}
+use Rattle.brake.proofs.Choice as choice-type
+use Rattle.brake.proofs.Choice.Laws as choice-value
+use Rattle.brake.proofs.Heard as heard-type
+use Rattle.brake.proofs.Heard.Laws as heard-value
 use Rattle.brake.proofs.State as state-type
 use Rattle.brake.proofs.State.Laws as state-value
 use Rattle.brake.proofs.Brake as brake-type
@@ -54,6 +64,15 @@ state-is ApplyingEmergency = enum.owes state-type.the-type state-value.the-laws 
 state-is HoldingEmergency = enum.owes state-type.the-type state-value.the-laws HoldingEmergency tt
 state-is Charging = enum.owes state-type.the-type state-value.the-laws Charging tt
 
+choice-held : (choice : Choice) → Is choice-type.the-row choice (enum.vals choice-type.the-type choice-value.the-laws choice)
+choice-held FiveSeconds = enum.owes choice-type.the-type choice-value.the-laws FiveSeconds tt
+choice-held Everlasting = enum.owes choice-type.the-type choice-value.the-laws Everlasting tt
+
+pub choice-is : (choice : Choice) → Is choice-type.the-row choice (choice-value.lowered choice ∷ [])
+choice-is choice =
+    let is = choice-held choice in
+    subst (λ (us : List Val). Is choice-type.the-row choice us) (choice-value.lowers .val-is choice _ is) is
+
 -- a pair, and so a tuple that is nested to the right
 abbrev _⨾_ : {A B : Type 0} → A → B → A × B
 a ⨾ b = (a, b)
@@ -67,6 +86,10 @@ bool b = refl
 
 abbrev end : Unit {0}
 end = tt
+
+heard-is : (heard : Heard) → heardNumber heard ≤ 2 ^ 32 → Is heard-type.the-row heard (enum.vals heard-type.the-type heard-value.the-laws heard)
+heard-is Never h = enum.owes heard-type.the-type heard-value.the-laws Never tt
+heard-is (At time) h = enum.owes heard-type.the-type heard-value.the-laws (At time) (uint w32 h ⨾ end)
 
 -- an array in a struct is told number by number, each as it is
 abbrev each-as-is : List ℕ → List ℕ
@@ -102,14 +125,14 @@ pub session-is : (x : Session) → FitsWords x → Is session-type.the-row x (se
 session-is x f =
     let (c₀, (c₁, (c₂, (c₃, (c₄, (c₅, (c₆, (c₇, (c₈, _))))))))) = f .0 in
     let b = x .consist .blocks in
-    let g = f .4 in
+    let g = f .5 in
     let blocks = owes blocks-type.the-type blocks-value.the-laws b
     (uint w8 (g .count) ⨾ array-is most (b .lengths) (g .lengths-places) (g .lengths) ⨾ array-is most (b .weights) (g .weights-places) (g .weights) ⨾ end) in
     let (_, (k₁, (k₂, (k₃, (k₄, (k₅, (k₆, (k₇, (k₈, _))))))))) = f .1 in
     let consist = uint w16 c₀ ⨾ uint w16 c₁ ⨾ uint w16 c₂ ⨾ uint w16 c₃ ⨾ uint w32 c₄ ⨾ uint w32 c₅ ⨾ uint w16 c₆ ⨾ uint w16 c₇ ⨾ uint w16 c₈ ⨾ blocks ⨾ end in
-    let brake = uint w16 k₁ ⨾ uint w16 k₂ ⨾ uint w16 k₃ ⨾ uint w16 k₄ ⨾ uint w16 k₅ ⨾ uint w16 k₆ ⨾ uint w16 k₇ ⨾ uint w32 k₈ ⨾ bool (x .brake .sampled) ⨾ end in
+    let brake = uint w16 k₁ ⨾ uint w16 k₂ ⨾ uint w16 k₃ ⨾ uint w16 k₄ ⨾ uint w16 k₅ ⨾ uint w16 k₆ ⨾ uint w16 k₇ ⨾ uint w32 k₈ ⨾ bool (x .brake .sampled) ⨾ choice-held (x .brake .choice) ⨾ heard-is (x .brake .heard) (f .2) ⨾ end in
     let fields = bool (x .opened) ⨾ owes consist-type.the-type consist-value.the-laws (x .consist) consist
-    ⨾ owes brake-type.the-type brake-value.the-laws (x .brake) (state-is (x .brake .state), brake) ⨾ uint w8 (f .2) ⨾ uint w8 (f .3) ⨾ end in
+    ⨾ owes brake-type.the-type brake-value.the-laws (x .brake) (state-is (x .brake .state), brake) ⨾ uint w8 (f .3) ⨾ uint w8 (f .4) ⨾ end in
     let is = owes session-type.the-type session-value.the-laws x fields in
     subst (λ (us : List Val). Is session-type.the-row x us) (session-value.lowers .val-is x _ is) is
 
@@ -125,14 +148,26 @@ bit-fits : (b : Bool) → bit b < 2 ^ 1
 bit-fits false = lit< tt
 bit-fits true = lit< tt
 
+choice-fits : (choice : Choice) → choiceNumber choice < 2 ^ 1
+choice-fits FiveSeconds = lit< tt
+choice-fits Everlasting = lit< tt
+
+heard-most : (heard : Heard) (vs : List Val) → Is heard-type.the-row heard vs → heardNumber heard ≤ 2 ^ 32
+heard-most Never vs is = omega arith
+heard-most (At time) vs is = enum.owed heard-type.the-type heard-value.the-laws (At time) vs is .0 .1
+
+heard-fits : (heard : Heard) (vs : List Val) → Is heard-type.the-row heard vs → heardNumber heard < 2 ^ 33
+heard-fits heard vs is = omega (arith, heard-most heard vs is)
+
 pub session-fits : (x : Session) (v : Val) → Is session-type.the-row x (v ∷ []) → FitsWords x
 session-fits x v is =
     let (_, (consist, (brake, (cause, (emergency, _))))) = owed session-type.the-type session-value.the-laws x (v ∷ []) is in
     let (c₀, (c₁, (c₂, (c₃, (c₄, (c₅, (c₆, (c₇, (c₈, (blocks, _)))))))))) = owed consist-type.the-type consist-value.the-laws (x .consist) _ consist in
     let (n, (lengths, (weights, _))) = owed blocks-type.the-type blocks-value.the-laws (x .consist .blocks) _ blocks in
-    let (_, (k₁, (k₂, (k₃, (k₄, (k₅, (k₆, (k₇, (k₈, _))))))))) = owed brake-type.the-type brake-value.the-laws (x .brake) _ brake in (
+    let (_, (k₁, (k₂, (k₃, (k₄, (k₅, (k₆, (k₇, (k₈, (_, (_, (heard, _)))))))))))) = owed brake-type.the-type brake-value.the-laws (x .brake) _ brake in (
       c₀ .1 ⨾ c₁ .1 ⨾ c₂ .1 ⨾ c₃ .1 ⨾ c₄ .1 ⨾ c₅ .1 ⨾ c₆ .1 ⨾ c₇ .1 ⨾ c₈ .1 ⨾ tt,
-      state-fits (x .brake .state) ⨾ k₁ .1 ⨾ k₂ .1 ⨾ k₃ .1 ⨾ k₄ .1 ⨾ k₅ .1 ⨾ k₆ .1 ⨾ k₇ .1 ⨾ k₈ .1 ⨾ bit-fits (x .brake .sampled) ⨾ tt,
+      state-fits (x .brake .state) ⨾ k₁ .1 ⨾ k₂ .1 ⨾ k₃ .1 ⨾ k₄ .1 ⨾ k₅ .1 ⨾ k₆ .1 ⨾ k₇ .1 ⨾ k₈ .1 ⨾ bit-fits (x .brake .sampled) ⨾ choice-fits (x .brake .choice) ⨾ heard-fits (x .brake .heard) _ heard ⨾ tt,
+      heard-most (x .brake .heard) _ heard,
       cause .1,
       emergency .1,
       record {
@@ -188,6 +223,14 @@ verdictIn v = verdictOf (number (part v 0)) (numberAt (number (part (part v 1) 0
     verdictOf zero n = zero
     verdictOf (suc k) n = n
 
+-- when the rear was last present: the variant's place, and of the second one its time
+heardIn : Val → ℕ
+heardIn v = at (number (part v 0)) (number (part v 1))
+  where
+    at : ℕ → ℕ → ℕ
+    at zero n = zero
+    at (suc k) n = suc n
+
 pub sessionIn : Val → Told
 sessionIn v =
     let c : ℕ → ℕ = λ i. number (part (part v 1) i) in
@@ -206,7 +249,7 @@ sessionIn v =
         offset = c 8;
         blocks = record { count = number (part b 0); lengths = arrayIn (part b 1); weights = arrayIn (part b 2) };
       },
-      number (part (part (part v 2) 0) 0) ∷ k 1 ∷ k 2 ∷ k 3 ∷ k 4 ∷ k 5 ∷ k 6 ∷ k 7 ∷ k 8 ∷ bit (truth (part (part v 2) 9)) ∷ [],
+      number (part (part (part v 2) 0) 0) ∷ k 1 ∷ k 2 ∷ k 3 ∷ k 4 ∷ k 5 ∷ k 6 ∷ k 7 ∷ k 8 ∷ bit (truth (part (part v 2) 9)) ∷ number (part (part (part v 2) 10) 0) ∷ heardIn (part (part v 2) 11) ∷ [],
       number (part v 3),
       number (part v 4),
     )
@@ -227,17 +270,17 @@ withLists c lengths weights = record {
 }
 
 pub session-read : (x : Session) → sessionIn (session-value.lowered x) ≡ sessionTold x
-unfolding part number truth sessionIn
+unfolding part number truth heardIn sessionIn
 session-read x =
     let k = x .brake in
-    let told : ℕ → List ℕ → List ℕ → Told = λ n ls ws. (
+    let told : ℕ → ℕ → ℕ → List ℕ → List ℕ → Told = λ n c h ls ws. (
       x .opened,
       withLists (x .consist) ls ws,
-      n ∷ k .hold ∷ k .a ∷ k .b ∷ k .equalization ∷ k .fall ∷ k .«last_front» ∷ k .«last_rear» ∷ k .«last_time» ∷ bit (k .sampled) ∷ [],
+      n ∷ k .hold ∷ k .a ∷ k .b ∷ k .equalization ∷ k .fall ∷ k .«last_front» ∷ k .«last_rear» ∷ k .«last_time» ∷ bit (k .sampled) ∷ c ∷ h ∷ [],
       x .cause,
       x .emergency,
     ) in
-    (λ i. told (state-read (k .state) i) (array-read (x .consist .blocks .lengths) i) (array-read (x .consist .blocks .weights) i))
+    (λ i. told (state-read (k .state) i) (choice-read (k .choice) i) (heard-read (k .heard) i) (array-read (x .consist .blocks .lengths) i) (array-read (x .consist .blocks .weights) i))
   where
     state-read : (s : State) → number (part (state-value.lowered s) 0) ≡ stateNumber s
     state-read Charged = refl
@@ -246,6 +289,14 @@ session-read x =
     state-read ApplyingEmergency = refl
     state-read HoldingEmergency = refl
     state-read Charging = refl
+
+    choice-read : (choice : Choice) → number (part (choice-value.lowered choice) 0) ≡ choiceNumber choice
+    choice-read FiveSeconds = refl
+    choice-read Everlasting = refl
+
+    heard-read : (heard : Heard) → heardIn (heard-value.lowered heard) ≡ heardNumber heard
+    heard-read Never = refl
+    heard-read (At time) = refl
 
 verdict-read : (v : Verdict) → verdictIn (verdict-value.lowered v) ≡ numberOfVerdict v
 unfolding part number numberAt verdictIn

@@ -21,6 +21,7 @@ use Rattle.sample.specs.declared.Sample.{Sample}
 use Rattle.update.specs.Rules.{updateOf}
 use Rattle.judge.specs.Judge.{standing}
 use Rattle.prediction.specs.Prediction.{behind}
+use Rattle.brake.specs.declared.Choice.{Choice}
 use Rattle.brake.specs.Sound as brake
 use Rattle.brake.proofs.Sound.{at-opening-sound}
 use Rattle.brake.proofs.Tested as brake-tested
@@ -39,7 +40,7 @@ use Rattle.sampling.proofs.Admitted.{is-opened, ready, cause-within, em
 
 pub open-unchanged : OpenUnchanged
 unfolding OpenUnchanged openOf
-open-unchanged x s r h = ap (λ (v : Verdict). kept v (openedWith (readConsist s .1)) x) h
+open-unchanged x s choice r h = ap (λ (v : Verdict). kept v (openedWith (readConsist s .1) choice) x) h
 
 pub sample-unchanged : SampleUnchanged
 unfolding SampleUnchanged sampleCall
@@ -55,16 +56,18 @@ module _ (x : Session) where
       rw (o, c, brake-tested.sound-is (x .consist) (x .brake) .1 b, le-leb (x .cause) targets.most k, le-leb (x .emergency) targets.most e, behind, f)
 
 -- an opening with a consist that is not refused
-opened-open : (c : Consist) → consist.outOfRange c ≡ false → consist.tooLight c ≡ false → consist.soundBlocks c ≡ true → isOpen (openedWith c) ≡ true
-opened-open c r w b =
-    is-open (openedWith c) refl (consist-sound.sound-is c r w b) (at-opening-sound c (consist-sound.sound c r w b)) (omega arith) (omega arith) refl
-    (rw (brake-tested.at-opening-passes c))
+opened-open : (c : Consist) (choice : Choice) → consist.outOfRange c ≡ false → consist.tooLight c ≡ false → consist.soundBlocks c ≡ true
+    → isOpen (openedWith c choice) ≡ true
+opened-open c choice r w b =
+    is-open (openedWith c choice) refl (consist-sound.sound-is c r w b) (at-opening-sound c choice (consist-sound.sound c r w b)) (omega arith) (omega arith) refl
+    (rw (brake-tested.at-opening-passes c choice))
 
 pub opens-open : OpensOpen
 unfolding OpensOpen openOf readConsist
-opens-open x s h =
+opens-open x s choice h =
     let (_, (range, (light, (broken, _)))) = none-holds (consist.readRules s) h in
-    ap (λ (v : Verdict). isOpen (kept v (openedWith (kept v (consistIn s) none)) x)) h ∙ opened-open (consistIn s) range light (consist-sound.behind-sound s broken)
+    ap (λ (v : Verdict). isOpen (kept v (openedWith (kept v (consistIn s) none) choice) x)) h
+    ∙ opened-open (consistIn s) choice range light (consist-sound.behind-sound s broken)
 
 -- an update has taken a sample
 sampled : (x : Session) (m : Sample) → brakeAfter x m .sampled ≡ true

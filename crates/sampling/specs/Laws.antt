@@ -6,6 +6,7 @@ use mathlib.Core.List.{List, [], _∷_}
 use Prim.Native.Nat.{ℕ, _<_}
 use Rattle.refusal.specs.declared.Refusal.{Refusal}
 use Rattle.refusal.specs.declared.Verdict.the-variants.{Accepted, Refused}
+use Rattle.brake.specs.declared.Choice.{Choice}
 use Rattle.session.specs.declared.Session.{Session}
 use Rattle.session.specs.Session.{isOpen}
 use Rattle.session.specs.Open.{openedWith, openOf}
@@ -14,7 +15,7 @@ use Rattle.sampling.specs.Sample.{sampleCall}
 -- ---- "A refused call changes neither the session nor one byte of the output": of the session; crate demands has the whole sentence
 
 unfoldable pub OpenUnchanged : Type 0
-OpenUnchanged = (x : Session) (s : List ℕ) (r : Refusal) → openOf x s .verdict ≡ Refused r → openOf x s .session ≡ x
+OpenUnchanged = (x : Session) (s : List ℕ) (choice : Choice) (r : Refusal) → openOf x s choice .verdict ≡ Refused r → openOf x s choice .session ≡ x
 
 unfoldable pub SampleUnchanged : Type 0
 SampleUnchanged =
@@ -23,14 +24,14 @@ SampleUnchanged =
 -- ---- every session that an accepted call hands back is open
 
 unfoldable pub OpensOpen : Type 0
-OpensOpen = (x : Session) (s : List ℕ) → openOf x s .verdict ≡ Accepted → isOpen (openOf x s .session) ≡ true
+OpensOpen = (x : Session) (s : List ℕ) (choice : Choice) → openOf x s choice .verdict ≡ Accepted → isOpen (openOf x s choice .session) ≡ true
 
 unfoldable pub StaysOpen : Type 0
 StaysOpen = (x : Session) (s p t out : List ℕ) → sampleCall x s p t out .0 .verdict ≡ Accepted → isOpen (sampleCall x s p t out .0 .session) ≡ true
 
 -- an open session that has taken no sample is as its opening left it: the brake of an opening, and no cause
 unfoldable pub FreshOpening : Type 0
-FreshOpening = (x : Session) → isOpen x ≡ true → x .brake .sampled ≡ false → x ≡ openedWith (x .consist)
+FreshOpening = (x : Session) → isOpen x ≡ true → x .brake .sampled ≡ false → x ≡ openedWith (x .consist) (x .brake .choice)
 
 -- ---- "Once commanded, a penalty stands until the session is opened anew."
 

@@ -26,7 +26,7 @@ pub record Opened (x : Session) : Type 0 where
   pub cause : x .cause ≤ targets.most
   pub emergency : x .emergency ≤ targets.most
   pub behind : 0 < x .emergency → 0 < x .cause
-  pub fresh : x .brake .sampled ≡ false → (x .brake ≡ atOpening (x .consist)) × (x .cause ≡ 0) × (x .emergency ≡ 0)
+  pub fresh : x .brake .sampled ≡ false → (x .brake ≡ atOpening (x .consist) (x .brake .choice)) × (x .cause ≡ 0) × (x .emergency ≡ 0)
 
 -- one of two
 other : (a b : Bool) → a || b ≡ true → a ≡ false → b ≡ true

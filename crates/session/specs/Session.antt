@@ -10,6 +10,7 @@ use Rattle.refusal.specs.declared.Verdict.the-variants.{Refused}
 use Rattle.consist.specs.declared.Consist.{Consist}
 use Rattle.consist.specs.Consist as consist
 use Rattle.targets.specs.Targets as targets
+use Rattle.brake.specs.declared.Choice.the-variants.{FiveSeconds}
 use Rattle.brake.specs.Brake.{brakeTold, atOpening, isAtOpening}
 use Rattle.brake.specs.Sound as brake
 use Rattle.session.specs.declared.Session.{Session}
@@ -38,7 +39,7 @@ isOpen x =
 
 -- the value before any opening
 abbrev pub noneOpen : Session
-noneOpen = record { opened = false; consist = consist.none; brake = atOpening consist.none; cause = 0; emergency = 0 }
+noneOpen = record { opened = false; consist = consist.none; brake = atOpening consist.none FiveSeconds; cause = 0; emergency = 0 }
 
 -- what a call hands back
 abbrev pub answer : Session → Verdict → Answer

@@ -1,6 +1,7 @@
 // A session: what is held from call to call, and its opening.
 use blocks::Blocks;
 use brake::Brake;
+use brake::Choice;
 use consist::Consist;
 use refusal::Verdict;
 use targets::Target;
@@ -43,7 +44,7 @@ pub fn none() -> Session
         offset: 0,
         blocks,
     };
-    let brake = Brake::at_opening(consist);
+    let brake = Brake::at_opening(consist, Choice::FiveSeconds);
     Session {
         opened: false,
         consist,
@@ -72,9 +73,9 @@ pub fn is_open(x: Session) -> bool
         & (k.sampled | fresh)
 }
 
-// Opens a session anew with the consist that the bytes are.
-pub fn open(x: Session, s: &[u8]) -> Answer
-    ensures { λ r. ⌜ answerTold r ≡ answerTold (openOf x (now (s .entry))) ⌝ }
+// Opens a session anew with the consist that the bytes are, and the choice of what a lost rear counts as.
+pub fn open(x: Session, s: &[u8], choice: Choice) -> Answer
+    ensures { λ r. ⌜ answerTold r ≡ answerTold (openOf x (now (s .entry)) choice) ⌝ }
 {
     let read = consist::read(s);
     let verdict = read.verdict;
@@ -85,7 +86,7 @@ pub fn open(x: Session, s: &[u8]) -> Answer
         };
     };
     let c = read.consist;
-    let brake = Brake::at_opening(c);
+    let brake = Brake::at_opening(c, choice);
     Answer {
         session: Session {
             opened: true,

@@ -40,38 +40,46 @@ fn size_for(count: u8) -> usize
     SIZE + Blocks::SIZE * count as usize + seal::SIZE
 }
 
-// The first five fields, to the state. The fields are put in three parts, each short enough to be put without a loop.
+// The first four fields. The fields are put in four parts, each short enough to be put without a loop.
 fn put_first(x: Session, out: &mut [u8])
-    ensures { λ _. ⌜ now (out .exit) ≡ putFrom 0 (take 5 widths) (take 5 (fieldsOf x)) (now (out .entry)) ⌝ }
+    ensures { λ _. ⌜ now (out .exit) ≡ putFrom 0 (take 4 widths) (take 4 (fieldsOf x)) (now (out .entry)) ⌝ }
 {
     let k = x.brake;
-    let state = k.state;
-    let number = brake::state_number(state);
     let mark = mark_for(x.consist.blocks.count);
-    let widths = [16, 4, 4, 1, 7];
-    let values = [
-        mark,
-        x.cause as u64,
-        x.emergency as u64,
-        k.sampled as u64,
-        number as u64,
-    ];
+    let widths = [16, 4, 4, 1];
+    let values = [mark, x.cause as u64, x.emergency as u64, k.sampled as u64];
     bits::put_fields(out, 0, &widths, &values);
+}
+
+// The choice, the state, and when the rear was last present.
+fn put_state(x: Session, out: &mut [u8])
+    ensures { λ _. ⌜ now (out .exit) ≡ putFrom 25 (take 3 (drop 4 widths)) (take 3 (drop 4 (fieldsOf x))) (now (out .entry)) ⌝ }
+{
+    let k = x.brake;
+    let choice = k.choice;
+    let state = k.state;
+    let heard = k.heard;
+    let chosen = brake::choice_number(choice);
+    let number = brake::state_number(state);
+    let last = brake::heard_number(heard);
+    let widths = [1, 5, 25];
+    let values = [chosen, number as u64, last];
+    bits::put_fields(out, 25, &widths, &values);
 }
 
 // Hold, A, B and equalization.
 fn put_pressures(x: Session, out: &mut [u8])
-    ensures { λ _. ⌜ now (out .exit) ≡ putFrom 32 (take 4 (drop 5 widths)) (take 4 (drop 5 (fieldsOf x))) (now (out .entry)) ⌝ }
+    ensures { λ _. ⌜ now (out .exit) ≡ putFrom 56 (take 4 (drop 7 widths)) (take 4 (drop 7 (fieldsOf x))) (now (out .entry)) ⌝ }
 {
     let k = x.brake;
     let widths = [16, 16, 16, 16];
     let values = [k.hold as u64, k.a as u64, k.b as u64, k.equalization as u64];
-    bits::put_fields(out, 32, &widths, &values);
+    bits::put_fields(out, 56, &widths, &values);
 }
 
 // The other four.
 fn put_back(x: Session, out: &mut [u8])
-    ensures { λ _. ⌜ now (out .exit) ≡ putFrom 96 (drop 9 widths) (drop 9 (fieldsOf x)) (now (out .entry)) ⌝ }
+    ensures { λ _. ⌜ now (out .exit) ≡ putFrom 120 (drop 11 widths) (drop 11 (fieldsOf x)) (now (out .entry)) ⌝ }
 {
     let k = x.brake;
     let widths = [16, 16, 16, 24];
@@ -81,10 +89,10 @@ fn put_back(x: Session, out: &mut [u8])
         k.last_rear as u64,
         k.last_time as u64,
     ];
-    bits::put_fields(out, 96, &widths, &values);
+    bits::put_fields(out, 120, &widths, &values);
 }
 
-// Puts the front over the first 41 bytes of `out`.
+// Puts the front over the first 44 bytes of `out`.
 fn put_front(x: Session, out: &mut [u8])
     requires opened { ⌜ isOpen x ≡ true ⌝ }
     requires room { ⌜ size ≤ length (now out) ⌝ }
@@ -92,6 +100,7 @@ fn put_front(x: Session, out: &mut [u8])
 {
     let c = x.consist;
     put_first(x, out);
+    put_state(x, out);
     put_pressures(x, out);
     put_back(x, out);
     // not refused: an open session's consist is sound

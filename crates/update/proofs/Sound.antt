@@ -11,10 +11,14 @@ use Rattle.sample.specs.declared.RearPressure.{RearPressure}
 use Rattle.sample.specs.declared.RearPressure.the-variants.{Present, Lost}
 use Rattle.brake.specs.declared.State.{State}
 use Rattle.brake.specs.declared.State.the-variants.{Charged, ApplyingService, HoldingService, ApplyingEmergency, HoldingEmergency, Charging}
+use Rattle.brake.specs.declared.Choice.{Choice}
+use Rattle.brake.specs.declared.Choice.the-variants.{FiveSeconds, Everlasting}
+use Rattle.brake.specs.declared.Heard.{Heard}
 use Rattle.brake.specs.declared.Brake.{Brake}
+use Rattle.brake.specs.Rear.{heardNumber}
 use Rattle.brake.specs.Sound.{mostPressure, mostTime, Sound}
 use Rattle.reading.specs.declared.Reading.{Reading}
-use Rattle.reading.specs.Readings.{rearTaken, nominalOf, readingOf}
+use Rattle.reading.specs.Readings.{heardAfter, isKept, lostRear, rearTaken, nominalOf, readingOf}
 use Rattle.air.specs.declared.Air.{Air}
 use Rattle.air.specs.Air.{airOf, withState, withHold, withA, withLast}
 use Rattle.air.specs.Rules.{startEmergency, startService, startApplying, startCharging, fallInService, fallInEmergency}
@@ -38,9 +42,10 @@ module _ (c : Consist) where
   hold-sound : (k : Air) (hold : ℕ) → hold ≤ mostPressure → AirSound c k → AirSound c (withHold k hold)
   hold-sound k hold h s = record { a = s .a; b = s .b; equalization = s .equalization; fall = s .fall; hold = h; balance = s .balance }
 
-  last-sound : (k : Air) (front rear time : ℕ) → front ≤ mostPressure → rear ≤ mostPressure → time ≤ mostTime → AirSound c k
-      → Sound c (withLast k front rear time)
-  last-sound k front rear time f r t s = record {
+  last-sound : (k : Air) (front rear time : ℕ) (choice : Choice) (heard : Heard)
+      → front ≤ mostPressure → rear ≤ mostPressure → time ≤ mostTime → heardNumber heard ≤ mostTime + 1 → AirSound c k
+      → Sound c (withLast k front rear time choice heard)
+  last-sound k front rear time choice heard f r t h s = record {
     a = s .a;
     b = s .b;
     equalization = s .equalization;
@@ -49,6 +54,7 @@ module _ (c : Consist) where
     front = f;
     rear = r;
     time = t;
+    heard = h;
     balance = s .balance;
   }
 
@@ -130,18 +136,34 @@ module _ (c : Consist) (k : Air) (r : Reading) (g : consist.Sound c) (s : AirSou
 
 -- ---- the update
 
-rear-sound : (c : Consist) (k : Brake) (front : ℕ) (rear : RearPressure) → Sound c k → front ≤ mostPressure → rearMost rear → rearTaken k front rear ≤ mostPressure
-unfolding rearTaken
-rear-sound c k front (Present rear) s f h = h
-rear-sound c k front Lost s f h = go (k .sampled)
+lost-sound : (c : Consist) (k : Brake) (time front : ℕ) (choice : Choice) → Sound c k → front ≤ mostPressure → lostRear choice k time front ≤ mostPressure
+unfolding lostRear
+lost-sound c k time front choice s f = go choice
   where
-    go : (b : Bool) → cond b (k .«last_rear») front ≤ mostPressure
-    go true = s .rear
-    go false = f
+    last : (b : Bool) → cond b (k .«last_rear») front ≤ mostPressure
+    last true = s .rear
+    last false = f
+
+    go : (choice : Choice) → lostRear choice k time front ≤ mostPressure
+    go FiveSeconds = last (isKept (k .heard) time)
+    go Everlasting = last (k .sampled)
+
+rear-sound : (c : Consist) (k : Brake) (time front : ℕ) (rear : RearPressure) → Sound c k → front ≤ mostPressure → rearMost rear
+    → rearTaken k time front rear ≤ mostPressure
+unfolding rearTaken
+rear-sound c k time front (Present rear) s f h = h
+rear-sound c k time front Lost s f h = lost-sound c k time front (k .choice) s f
+
+heard-sound : (c : Consist) (k : Brake) (time : ℕ) (rear : RearPressure) → Sound c k → time ≤ mostTime
+    → heardNumber (heardAfter (k .heard) time rear) ≤ mostTime + 1
+unfolding heardAfter
+heard-sound c k time (Present rear) s t = omega arith
+heard-sound c k time Lost s t = s .heard
 
 pub updated-sound : (c : Consist) (k : Brake) (time front : ℕ) (rear : RearPressure) → Usable c k → InRange time front rear
     → Sound c (updateOf c k time front rear)
 unfolding nominalOf readingOf updateOf
 updated-sound c k time front rear s h =
-    last-sound c _ front _ time (h .front-most) (rear-sound c k front rear (s .brake) (h .front-most) (h .rear-most)) (h .time-most)
+    last-sound c _ front _ time (k .choice) _ (h .front-most) (rear-sound c k time front rear (s .brake) (h .front-most) (h .rear-most)) (h .time-most)
+    (heard-sound c k time rear (s .brake) (h .time-most))
     (ruled-sound c (airOf k) (readingOf c k time front rear) (s .consist) (air-sound c k (s .brake)) (omega arith) (h .front-most) (k .state) refl)

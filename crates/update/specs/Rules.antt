@@ -8,7 +8,7 @@ use Rattle.brake.specs.declared.State.{State}
 use Rattle.brake.specs.declared.State.the-variants.{Charged, ApplyingService, HoldingService, ApplyingEmergency, HoldingEmergency, Charging}
 use Rattle.brake.specs.declared.Brake.{Brake}
 use Rattle.reading.specs.declared.Reading.{Reading}
-use Rattle.reading.specs.Readings.{readingOf}
+use Rattle.reading.specs.Readings.{heardAfter, readingOf}
 use Rattle.air.specs.declared.Air.{Air}
 use Rattle.air.specs.Air.{airOf, withState, withHold, withA, withLast}
 use Rattle.air.specs.Rules.{startApplying, startCharging, fallInService, fallInEmergency}
@@ -64,6 +64,8 @@ ruleOf Charging c k r = inCharging c k r
 
 -- ---- one accepted sample: its time, front and rear. No pressure rule reads the speed.
 
--- of a rear "the value so counted is held as last rear"
+-- of a rear "the value so counted is held as last rear"; R-7: its choice stands, and a present rear is heard
 unfoldable pub updateOf : Consist → Brake → ℕ → ℕ → RearPressure → Brake
-updateOf c k time front rear = let r = readingOf c k time front rear in withLast (ruleOf (k .state) c (airOf k) r) front (r .rear) time
+updateOf c k time front rear =
+    let r = readingOf c k time front rear in
+    withLast (ruleOf (k .state) c (airOf k) r) front (r .rear) time (k .choice) (heardAfter (k .heard) time rear)

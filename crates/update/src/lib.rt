@@ -18,6 +18,9 @@ pub fn updated(k: Brake, c: Consist, time: u32, front: u16, rear: RearPressure) 
     let held = Air::of(k);
     let next = states::ruled(held, c, r);
     let state = next.state;
+    let choice = k.choice;
+    let before = k.heard;
+    let heard = reading::heard(before, time, rear);
     Brake {
         state: state,
         hold: next.hold,
@@ -29,5 +32,7 @@ pub fn updated(k: Brake, c: Consist, time: u32, front: u16, rear: RearPressure) 
         last_rear: r.rear,
         last_time: time,
         sampled: true,
+        choice,
+        heard,
     }
 }

@@ -6,10 +6,10 @@ use Rattle.figures.proofs.main.Statement.{statement}
 use Rattle.figures.proofs.main.Tie as tie
 
 abbrev Inv-loop : tie.InvT-loop
-Inv-loop i₀ i-end i = Unit {0}
+Inv-loop choice₀ i₀ i-end choice i = Unit {0}
 
 abbrev μ-loop : tie.MeasureT-loop
-μ-loop i₀ i-end i = i-end - i
+μ-loop choice₀ i₀ i-end choice i = i-end - i
 
 pub main-spec : {M : Type 1} → statement M
 main-spec =

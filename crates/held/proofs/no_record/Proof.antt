@@ -10,7 +10,7 @@ use borrow.Author.Tests.{eq-eqb, ne-eqb}
 use denote.Ref.{now}
 use Rattle.record.specs.Record.{wrongLength}
 use Rattle.seal.specs.Seal.{isSealed}
-use Rattle.held.specs.Held.{sizeFor, frontAt, behindAt, countAt, noFront, noBehind, noRecord}
+use Rattle.held.specs.Held.{size, sizeFor, frontAt, behindAt, countAt, noFront, noBehind, noRecord}
 use Rattle.held.proofs.Sizes.{size-none, some-blocks}
 use borrow.Author.Needs.{needs}
 use Rattle.held.proofs.no_record.Statement.{statement}
@@ -30,13 +30,13 @@ module _ (s : List ℕ) where
     unfolding noRecord wrongLength
     right-size = ap (λ (b : Bool). not b || noFront (frontAt s) || noBehind (countAt s) (behindAt s)) (eq-eqb (length s) (sizeFor (countAt s)) e)
 
-    alone : length s ≡ 41 → noRecord s ≡ noFront (frontAt s)
+    alone : length s ≡ size → noRecord s ≡ noFront (frontAt s)
     alone h =
         right-size
         ∙ ap (λ (n : ℕ). noFront (frontAt s) || noBehind n (behindAt s)) (size-none (countAt s) (sym e ∙ h))
         ∙ or-false (noFront (frontAt s))
 
-    some : (length s ≡ 41 → ⊥) → noRecord s ≡ noFront (frontAt s) || not (isSealed (behindAt s))
+    some : (length s ≡ size → ⊥) → noRecord s ≡ noFront (frontAt s) || not (isSealed (behindAt s))
     some h = right-size ∙ ap (λ (b : Bool). noFront (frontAt s) || b) (behind-some (countAt s) (behindAt s) (some-blocks (countAt s) (λ z. h (e ∙ z))))
 
 -- the code's points: past the size, and past the front
@@ -65,7 +65,7 @@ returns-4 c =
     let front = c .before .before .before in
     let right = front .before .before in
     let s = bytes (right .before) in
-    ap₂ (λ (a b : Bool). a || not b) (front .no-front .ensures) (c .is-sealed .ensures ∙ ap isSealed (take-all (length s - 41) (behindAt s) (simp length-drop (omega arith))))
+    ap₂ (λ (a b : Bool). a || not b) (front .no-front .ensures) (c .is-sealed .ensures ∙ ap isSealed (take-all (length s - size) (behindAt s) (simp length-drop (omega arith))))
     ∙ sym (some s (sized right) (c .before .before .if3 .left))
 
 pub no-record-spec : {M : Type 1} → statement M
@@ -73,10 +73,10 @@ no-record-spec =
     tie.close
     (tie.spec
     returns
-    (λ c. sym (length-take-le 41 (now (c .before .before .before .args .s)) (omega arith)))
+    (λ c. sym (length-take-le size (now (c .before .before .before .args .s)) (omega arith)))
     (λ c κs. search needs)
     returns-2
-    (λ c. sym (length-take-le 41 (bytes (c .before .before)) (omega arith)))
+    (λ c. sym (length-take-le size (bytes (c .before .before)) (omega arith)))
     (λ c κs. search needs)
     returns-3
     (λ c. search needs) (λ c. search needs) (λ c. search needs) (λ c κs. search needs)

@@ -82,10 +82,10 @@ module _ (c : tie.Else1) where
   abbrev whole : tie.After-enum-told
   whole = first (consisted (c .before))
 
-  behind : take (length (bytes whole) - 4 - 41) (behindAt (bytes whole)) ≡ blocksAt (bytes whole)
+  behind : take (length (bytes whole) - 4 - size) (behindAt (bytes whole)) ≡ blocksAt (bytes whole)
   behind = blocks-behind (bytes whole) (c .if1 .left) (held whole)
 
-  with-long : length (bytes whole) ≡ 45 + 4 * countAt (bytes whole)
+  with-long : length (bytes whole) ≡ size + 4 + 4 * countAt (bytes whole)
   with-long = long-with (bytes whole) (c .if1 .left) (held whole)
 
 broken-is : (c : tie.After-is-broken) → isBroken (bytes (whole (c .before .before))) ≡ c .is-broken .result
@@ -124,9 +124,9 @@ read-spec =
     (λ c κs. search needs) (λ c κs. search needs) (λ c. search needs) (λ c. search needs) (λ c κs. search needs) returns
     (λ c. search needs) (λ c. search needs) (λ c. omega (arith, long c)) (λ c κs. search needs)
     (λ c. search needs) (λ c. search needs) (λ c κs. search needs) returns-2
-    (λ c. sym (length-take-le 41 (bytes (first (consisted (c .before .before)))) (long (first (consisted (c .before .before)))))) (λ c κs. search needs) returns-3
+    (λ c. sym (length-take-le size (bytes (first (consisted (c .before .before)))) (long (first (consisted (c .before .before)))))) (λ c κs. search needs) returns-3
     (λ c. omega (arith, with-long c)) (λ c. omega (arith, with-long c)) (λ c. omega (arith, with-long c)) (λ c. omega (arith, with-long c)) (λ c κs. search needs)
     (λ c κs. search needs) (λ c. search needs) (λ c. search needs) (λ c κs. search needs) returns-4
     (λ c. omega (arith, with-long (behind-at c))) (λ c. omega (arith, with-long (behind-at c))) (λ c. omega (arith, with-long (behind-at c))) (λ c κs. search needs)
-    (λ c. sym (length-take-le 41 (bytes (whole (behind-at (c .before .before .before)))) (long (whole (behind-at (c .before .before .before)))))) (λ c κs. search needs) (λ c κs. search needs)
+    (λ c. sym (length-take-le size (bytes (whole (behind-at (c .before .before .before)))) (long (whole (behind-at (c .before .before .before)))))) (λ c κs. search needs) (λ c κs. search needs)
     returns-5)

@@ -8,7 +8,7 @@ use lib.ListN.{take}
 use lib.Seq.{length-take-le}
 use denote.Ref.{now}
 use Rattle.refusal.specs.declared.Refusal.the-variants.{NoSession}
-use Rattle.held.specs.Held.{refusedWith, readTold, readSession}
+use Rattle.held.specs.Held.{size, refusedWith, readTold, readSession}
 use Rattle.held.proofs.Sizes.{no-buffer, in-buffer}
 use Rattle.held.proofs.Answers.{too-short, read-is}
 use borrow.Author.Needs.{needs}
@@ -35,5 +35,5 @@ read-start-spec =
     tie.close
     (tie.spec
     (λ c κs. search needs) returns
-    (λ c. sym (length-take-le 41 (now (c .before .before .before .args .s)) (omega arith))) (λ c κs. search needs)
+    (λ c. sym (length-take-le size (now (c .before .before .before .args .s)) (omega arith))) (λ c κs. search needs)
     (λ c. sym (length-take-le _ (now (c .before .before .before .before .before .args .s)) (omega arith))) (λ c κs. search needs) returns-2)

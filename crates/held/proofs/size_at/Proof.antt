@@ -4,17 +4,17 @@ use mathlib.Core.Bool.{true, false}
 use Prim.Native.Nat.{ℕ, _+_, _-_, _*_, _≤_, _<_}
 use native.Mathlib.Omega.{arith}
 use borrow.Author.Tests.{not-true, not-false}
-use Rattle.held.specs.Held.{letter, hasBlocks, countIn, sizeFor, most}
+use Rattle.held.specs.Held.{size, letter, hasBlocks, countIn, sizeFor, most}
 use Rattle.held.proofs.Sizes.{with-blocks, count-some, count-none, size-some}
 use borrow.Author.Needs.{needs}
 use Rattle.held.proofs.size_at.Statement.{statement}
 use Rattle.held.proofs.size_at.Tie as tie
 
 -- a mark that tells of no blocks, and one that does
-alone : (f m : ℕ) → m ≡ f → hasBlocks m ≡ false → (41 ≡ sizeFor (countIn f)) × (41 ≤ most)
+alone : (f m : ℕ) → m ≡ f → hasBlocks m ≡ false → (size ≡ sizeFor (countIn f)) × (size ≤ most)
 alone f m e h = (sym (ap (λ (n : ℕ). sizeFor (countIn n)) (sym e) ∙ ap sizeFor (count-none m h)), omega arith)
 
-some : (f m : ℕ) → m ≡ f → hasBlocks m ≡ true → (41 + 4 * (m - letter) + 4 ≡ sizeFor (countIn f)) × (41 + 4 * (m - letter) + 4 ≤ most)
+some : (f m : ℕ) → m ≡ f → hasBlocks m ≡ true → (size + 4 * (m - letter) + 4 ≡ sizeFor (countIn f)) × (size + 4 * (m - letter) + 4 ≤ most)
 some f m e h =
     let w = with-blocks m h in
     let n = size-some (m - letter) (omega arith) in

@@ -23,15 +23,15 @@ module _ (c : tie.After-read) where
   abbrev read : Verdict × Consist
   read = (c .read .result .verdict, c .read .result .consist)
 
-  opened-by : openedBy (start c .args .x) read ≡ openOf (start c .args .x) (now (start c .args .s))
+  opened-by : openedBy (start c .args .x) read (start c .args .choice) ≡ openOf (start c .args .x) (now (start c .args .s)) (start c .args .choice)
   unfolding openOf
-  opened-by = ap (openedBy (start c .args .x)) (told-one read (readConsist (now (start c .args .s))) (c .read .ensures))
+  opened-by = ap (λ (r : Verdict × Consist). openedBy (start c .args .x) r (start c .args .choice)) (told-one read (readConsist (now (start c .args .s))) (c .read .ensures))
 
 returns : tie.Need-returns
 returns c =
     let k = c .before .before in
     ap answerTold
-    (ap (λ (v : Verdict). answer (kept v (openedWith (read k .1)) (start k .args .x)) (read k .0)) (sym (c .enum-told2 .given .1))
+    (ap (λ (v : Verdict). answer (kept v (openedWith (read k .1) (start k .args .choice)) (start k .args .x)) (read k .0)) (sym (c .enum-told2 .given .1))
     ∙ opened-by k)
 
 returns-2 : tie.Need-returns-2
@@ -39,7 +39,7 @@ returns-2 c =
     let k = c .before .before .before .before in
     ap answerTold
     (ap (λ (b : Brake). answer (record { opened = true; consist = read k .1; brake = b; cause = 0; emergency = 0 }) Accepted) (c .at-opening .ensures)
-    ∙ ap (λ (v : Verdict). openedBy (start k .args .x) (v, read k .1)) (sym (c .before .before .enum-told .given .1))
+    ∙ ap (λ (v : Verdict). openedBy (start k .args .x) (v, read k .1) (start k .args .choice)) (sym (c .before .before .enum-told .given .1))
     ∙ opened-by k)
 
 pub open-spec : {M : Type 1} → statement M

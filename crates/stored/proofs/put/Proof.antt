@@ -9,30 +9,30 @@ use denote.Ref.{now}
 use Rattle.bits.proofs.Parts.{put-part}
 use Rattle.blocks.specs.Blocks as blocks
 use Rattle.session.specs.declared.Session.{Session}
-use Rattle.held.specs.Held.{behindFor, sizeOf, frontOf, behindOf, bytesOf}
+use Rattle.held.specs.Held.{size, behindFor, sizeOf, frontOf, behindOf, bytesOf}
 use Rattle.held.proofs.Answers.{front-size, few}
 use borrow.Author.Needs.{needs}
 use Rattle.stored.proofs.put.Statement.{statement}
 use Rattle.stored.proofs.put.Tie as tie
 
 -- the front is put, and `end` is the record's size
-module _ (x : Session) (out l : List ℕ) (end : ℕ) (room : sizeOf x ≤ length out) (front : l ≡ frontOf x ++ drop 41 out) (sized : end ≡ sizeOf x) where
+module _ (x : Session) (out l : List ℕ) (end : ℕ) (room : sizeOf x ≤ length out) (front : l ≡ frontOf x ++ drop size out) (sized : end ≡ sizeOf x) where
   abbrev n : ℕ
   n = x .consist .blocks .count
 
-  left : behindFor n ≤ length (drop 41 l)
+  left : behindFor n ≤ length (drop size l)
   left =
-      let e : length l ≡ 41 + (length out - 41) = ap length front ∙ length-append (frontOf x) (drop 41 out) ∙ ap₂ _+_ (front-size x) (length-drop 41 out) in
+      let e : length l ≡ size + (length out - size) = ap length front ∙ length-append (frontOf x) (drop size out) ∙ ap₂ _+_ (front-size x) (length-drop size out) in
       simp length-drop (omega arith)
 
-  behind-room : behindFor n ≡ length (take (end - 41) (drop 41 l))
-  behind-room = let e : end - 41 ≡ behindFor n = omega arith in sym (ap (λ (k : ℕ). length (take k (drop 41 l))) e ∙ length-take-le (behindFor n) (drop 41 l) left)
+  behind-room : behindFor n ≡ length (take (end - size) (drop size l))
+  behind-room = let e : end - size ≡ behindFor n = omega arith in sym (ap (λ (k : ℕ). length (take k (drop size l))) e ∙ length-take-le (behindFor n) (drop size l) left)
 
-  both-put : (z : List ℕ) → z ≡ behindOf n (blocks.bytesOf (x .consist .blocks)) → take 41 l ++ (z ++ drop (end - 41) (drop 41 l)) ≡ bytesOf x ++ drop (sizeOf x) out
+  both-put : (z : List ℕ) → z ≡ behindOf n (blocks.bytesOf (x .consist .blocks)) → take size l ++ (z ++ drop (end - size) (drop size l)) ≡ bytesOf x ++ drop (sizeOf x) out
   unfolding bytesOf
   both-put z e =
-      let k : 41 + (end - 41) ≡ sizeOf x = omega arith in
-      put-part out (frontOf x) l 41 (front-size x) front z (end - 41)
+      let k : size + (end - size) ≡ sizeOf x = omega arith in
+      put-part out (frontOf x) l size (front-size x) front z (end - size)
       ∙ ap₂ (λ (b : List ℕ) (m : ℕ). (frontOf x ++ b) ++ drop m out) e k
 
 -- past the front

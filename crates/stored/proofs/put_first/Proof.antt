@@ -15,16 +15,15 @@ returns c =
     let put = c .before .before in
     let lent = put .before .before .before in
     let marked = lent .before .before .before .before in
-    let numbered = marked .before in
-    let x = numbered .before .before .before .args .x in
-    let out = now (numbered .before .before .before .args .out) in
+    let x = marked .before .before .before .args .x in
+    let out = now (marked .before .before .before .args .out) in
     put .put-fields .ensures
-    ∙ (λ i. putFrom 0 (take 5 widths) (marked .mark-for .ensures i ∷ x .cause ∷ x .emergency ∷ same-bit (x .brake .sampled) i ∷ numbered .state-number .ensures i ∷ []) out)
+    ∙ (λ i. putFrom 0 (take 4 widths) (marked .mark-for .ensures i ∷ x .cause ∷ x .emergency ∷ same-bit (x .brake .sampled) i ∷ []) out)
 
 pub put-first-spec : {M : Type 1} → statement M
 put-first-spec =
     tie.close
     (tie.spec
-    (λ c κs. search needs) (λ c κs. search needs) (λ c. search needs) (λ c. search needs) (λ c. search needs) (λ c. search needs)
+    (λ c κs. search needs) (λ c. search needs) (λ c. search needs) (λ c. search needs)
     (λ c. search needs) (λ c. search needs) (λ c κs. search needs) (λ c. search needs)
     returns)

@@ -1,6 +1,6 @@
 -- `stored::put_front` meets its contract: the fields, the consist without its blocks and the check word, one after the other. Assumes nothing.
 use mathlib.Core.Path.{_≡_, refl, ap, ap₂, _∙_}
-use Prim.Native.Nat.{ℕ, _≤_}
+use Prim.Native.Nat.{ℕ, _+_, _≤_}
 use native.Mathlib.Omega.{arith}
 use mathlib.Core.Bool.{true, false, not}
 use mathlib.Core.List.{List, _++_, append-nil}
@@ -24,7 +24,8 @@ use Rattle.consist.proofs.Sound as consist-sound
 use Rattle.session.specs.declared.Session.{Session}
 use Rattle.session.specs.Session.{isOpen}
 use Rattle.session.proofs.Opened.{opened}
-use Rattle.held.specs.Held.{widths, fieldsOf, frontOf}
+use Rattle.held.specs.Held as held
+use Rattle.held.specs.Held.{size, widths, fieldsOf, frontOf}
 use Rattle.held.proofs.Answers.{fits}
 use borrow.Author.Needs.{needs}
 use Rattle.stored.proofs.put_front.Statement.{statement}
@@ -43,20 +44,21 @@ module _ (x : Session) (o : isOpen x ≡ true) where
       ∙ (λ i. consist.frontOf (x .consist) ++ drop-of-length-le t {i = 16} (omega (arith, e)) i)
       ∙ append-nil (consist.frontOf (x .consist))
 
-  all-put : (out fields behind whole : List ℕ) (c : Consist) → Bytes out → 41 ≤ length out → fields ≡ putFrom 0 widths (fieldsOf x) out
+  all-put : (out fields behind whole : List ℕ) (c : Consist) → Bytes out → size ≤ length out → fields ≡ putFrom 0 widths (fieldsOf x) out
       → c ≡ alone
-      → behind ≡ consist.writeConsist c (take 16 (drop 21 fields)) .1
-      → whole ≡ resealed (take 41 (take 21 fields ++ (behind ++ drop 16 (drop 21 fields))))
-      → whole ++ drop 41 (take 21 fields ++ (behind ++ drop 16 (drop 21 fields))) ≡ frontOf x ++ drop 41 out
+      → behind ≡ consist.writeConsist c (take 16 (drop held.own fields)) .1
+      → whole ≡ resealed (take size (take held.own fields ++ (behind ++ drop 16 (drop held.own fields))))
+      → whole ++ drop size (take held.own fields ++ (behind ++ drop 16 (drop held.own fields))) ≡ frontOf x ++ drop size out
   unfolding frontOf consist.frontOf
   all-put out fields behind whole c b room f a p w =
-      let own = bytesFrom 21 widths (fieldsOf x) in
-      let first : fields ≡ own ++ drop 21 out = f ∙ put-all 21 widths (fieldsOf x) out tt refl (fits x o) b (omega arith) in
-      let l : length (take 16 (drop 21 fields)) ≡ 16 = rw (ap (drop 21) first) (simp (length-take, length-drop) (omega arith)) in
-      let put = p ∙ ap (λ (d : Consist). consist.writeConsist d (take 16 (drop 21 fields)) .1) a ∙ consist-put (take 16 (drop 21 fields)) l in
-      let both = put-part out own fields 21 refl first behind 16 ∙ (λ i. (own ++ put i) ++ drop 37 out) in
-      let seal = resealed-over (own ++ consist.frontOf (x .consist)) (take 4 (drop 37 out)) (simp (length-take, length-drop) (omega arith)) in
-      ap₂ _++_ (w ∙ (λ i. resealed (take 41 (both i))) ∙ seal) (ap (drop 41) both ∙ drop-drop 4 37 out)
+      let own = bytesFrom held.own widths (fieldsOf x) in
+      let first : fields ≡ own ++ drop held.own out = f ∙ put-all held.own widths (fieldsOf x) out tt refl (fits x o) b (omega arith) in
+      let rest : drop held.own fields ≡ drop held.own out = ap (drop held.own) first in
+      let l : length (take 16 (drop held.own fields)) ≡ 16 = ap (λ (t : List ℕ). length (take 16 t)) rest ∙ simp (length-take, length-drop) (omega arith) in
+      let put = p ∙ ap (λ (d : Consist). consist.writeConsist d (take 16 (drop held.own fields)) .1) a ∙ consist-put (take 16 (drop held.own fields)) l in
+      let both = put-part out own fields held.own refl first behind 16 ∙ (λ i. (own ++ put i) ++ drop (held.own + 16) out) in
+      let seal = resealed-over (own ++ consist.frontOf (x .consist)) (take 4 (drop (held.own + 16) out)) (simp (length-take, length-drop) (omega arith)) in
+      ap₂ _++_ (w ∙ (λ i. resealed (take size (both i))) ∙ seal) (ap (drop size) both ∙ drop-drop 4 (held.own + 16) out)
 
 returns : tie.Need-returns
 returns c =
@@ -65,13 +67,16 @@ returns c =
     let alone-at = written .before .before in
     let back = alone-at .before .before .before in
     let pressures = back .before .before .before .before in
-    let front = pressures .before .before .before .before in
+    let state = pressures .before .before .before .before in
+    let front = state .before .before .before .before in
     let start = front .before .before .before in
     let a = start .before .args in
     all-put (a .x) (start .before .pre .0) (now (a .out)) _ _ _ _ (λ i. start .slice-known .given i .fits) (start .before .pre .1)
     (back .put-back .ensures
-    ∙ ap (putFrom 96 (drop 9 widths) (drop 9 (fieldsOf (a .x))))
-    (pressures .put-pressures .ensures ∙ ap (putFrom 32 (take 4 (drop 5 widths)) (take 4 (drop 5 (fieldsOf (a .x))))) (front .put-first .ensures)))
+    ∙ ap (putFrom 120 (drop 11 widths) (drop 11 (fieldsOf (a .x))))
+    (pressures .put-pressures .ensures
+    ∙ ap (putFrom 56 (take 4 (drop 7 widths)) (take 4 (drop 7 (fieldsOf (a .x)))))
+    (state .put-state .ensures ∙ ap (putFrom 25 (take 3 (drop 4 widths)) (take 3 (drop 4 (fieldsOf (a .x))))) (front .put-first .ensures))))
     (alone-at .alone .ensures)
     (λ i. written .write .ensures i .1)
     (sealed .put-check-word .ensures)
@@ -80,6 +85,6 @@ pub put-front-spec : {M : Type 1} → statement M
 put-front-spec =
     tie.close
     (tie.spec
-    (λ c κs. search needs) (λ c κs. search needs) (λ c κs. search needs) (λ c κs. search needs) (λ c. search needs) (λ c. search needs) (λ c. search needs) (λ c κs. search needs)
+    (λ c κs. search needs) (λ c κs. search needs) (λ c κs. search needs) (λ c κs. search needs) (λ c κs. search needs) (λ c. search needs) (λ c. search needs) (λ c. search needs) (λ c κs. search needs)
     (λ c. search needs) (λ c. search needs) (λ c. search needs) (λ c κs. search needs) (λ c. search needs)
     returns)
