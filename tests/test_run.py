@@ -36,12 +36,15 @@ class Run(unittest.TestCase):
             file.write(text)
         os.chmod(path, 0o755)
 
-    def run_it(self, *words, data=b""):
+    def call(self, *command, data=b""):
         """Status, output and errors."""
         kit = os.path.join(self.place, "kit", "bin")
-        done = subprocess.run(["./run", *words], input=data, stdout=subprocess.PIPE, stderr=subprocess.PIPE, check=False,
+        done = subprocess.run(command, input=data, stdout=subprocess.PIPE, stderr=subprocess.PIPE, check=False,
                               cwd=self.place, env={"PATH": kit + os.pathsep + os.environ["PATH"]})
         return done.returncode, done.stdout.decode(), done.stderr.decode()
+
+    def run_it(self, *words, data=b""):
+        return self.call("./run", *words, data=data)
 
     def line(self, data, *words):
         """What the stand-in prints of those bytes and words."""
@@ -78,6 +81,11 @@ class Run(unittest.TestCase):
             file.write(b"one")
         self.assertEqual(self.run_it("./everlasting"), (0, self.line(b"one"), ""))
         self.assertEqual(self.run_it("everlasting", "./everlasting"), (0, self.line(b"one", "everlasting"), ""))
+
+    def test_launch_hands_on_every_word(self):
+        for static in ((), ("--static",)):
+            self.assertEqual(self.call("tools/launch", *static, "target/bin/enforce", "everlasting", "a b", data=b"any"),
+                             (0, self.line(b"any", "everlasting", "a b"), ""))
 
     def test_a_missing_program_is_built_for_feeds_alone(self):
         # the stand-in of rt only fails, and where a word is wrong it is not asked

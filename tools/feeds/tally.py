@@ -33,7 +33,8 @@ def refusal_of(line):
 
 
 class Earlier:
-    """How often program 1 answers otherwise than one that keeps an earlier rule: the feeds by what they show, and the samples."""
+    """How often program 1 answers otherwise than one that keeps an earlier rule, or than itself under the everlasting choice: the
+    feeds by what they show, and the samples."""
 
     def __init__(self, name, count, shows, wanted):
         self.name = name
