@@ -1,13 +1,10 @@
-"""Tests of tools/compare."""
+"""Tests of tools/compare: what is compared and counted; test_compare_choices has what it makes of the two choices."""
 
 import os
-import subprocess
-import tempfile
 import unittest
 
-from here import PYTHON, TOOLS, feeds
-
-COMPARE = os.path.join(TOOLS, "compare")
+from comparing import Comparing
+from here import PYTHON, feeds
 
 # A stand-in for a session program: prints how many bytes it was given.
 COUNT = [*PYTHON, "-c", "import sys; print(len(sys.stdin.buffer.read()))"]
@@ -15,26 +12,7 @@ COUNT = [*PYTHON, "-c", "import sys; print(len(sys.stdin.buffer.read()))"]
 WRONG = [*PYTHON, "-c", "import sys; n = len(sys.stdin.buffer.read()); print(n + (n > 200))"]
 
 
-class Compare(unittest.TestCase):
-
-    def setUp(self):
-        self.place = tempfile.TemporaryDirectory()
-        self.addCleanup(self.place.cleanup)
-
-    def saying(self, said, after=""):
-        """A program that takes no arguments: it prints that, and then does what is to come after."""
-        folder = tempfile.TemporaryDirectory()
-        self.addCleanup(folder.cleanup)
-        path = os.path.join(folder.name, "program")
-        with open(path, "w") as file:
-            file.write("#!/bin/sh\nprintf '%s'\n%s\n" % (said, after))
-        os.chmod(path, 0o755)
-        return path
-
-    def run_compare(self, *words):
-        done = subprocess.run([*PYTHON, COMPARE, *words], stdout=subprocess.PIPE,
-                              stderr=subprocess.PIPE, check=False, cwd=self.place.name)
-        return done.returncode, done.stdout.decode(), done.stderr.decode()
+class Compare(Comparing):
 
     def test_same(self):
         status, out, _ = self.run_compare("7", "--", *COUNT, "--", *COUNT)
@@ -94,7 +72,8 @@ class Compare(unittest.TestCase):
         self.assertIn("refusal 10, refusal 13, emergency called in state 0,", out)
         self.assertIn("emergency called in state 5, emergency cause 1 in state 0,", out)
         self.assertIn("emergency cause 8 in state 5, a runaway, a slight descent, a sample with 1 block, "
-                      "a sample with 2 to 63 blocks, a sample with 64 blocks\n", out)
+                      "a sample with 2 to 63 blocks, a sample with 64 blocks, a silence kept at 5 s, ", out)
+        self.assertIn(", a parting of the choices by a value given up, a parting of the choices by none yet\n", out)
         self.assertEqual(self.run_compare("299", "--", "true", "--", "true")[0], 0)
 
     def test_emergency_is_counted(self):

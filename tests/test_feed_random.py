@@ -8,7 +8,7 @@ from here import feeds
 from second_program import run as second, told
 
 # Of the feeds of seeds 0 to 199; changes only when the generator is changed on purpose.
-DIGEST = "17ddbbfbc6c91381e825aaa6b44cd79df87a80364a2e3fb353b6c9e7425934f9"
+DIGEST = "485169f28aafc5c5360490ad1ef6f5c36c54cf9e35f05054d554016a10b2d87b"
 
 
 class Random(unittest.TestCase):

@@ -13,7 +13,7 @@ class Tally(unittest.TestCase):
         finer = {"nearer": "a nearer stop", "not called": "a penalty not called"}
         weighed = {"call more": "a call more by weight", "call less": "a call less by weight",
                    "farther": "a farther stop by weight", "nearer": "a nearer stop by weight"}
-        last = "a sample with 64 blocks"
+        last = "a parting of the choices by none yet"
         for count, named in ((feeds.first_crossing, rises), (feeds.hundredths, finer), (feeds.evenly, weighed)):
             self.assertEqual(feeds.Tally(2, [count()]).missing()[-len(named) - 1:], [last, *named.values()])
             for shown, name in named.items():
@@ -25,10 +25,13 @@ class Tally(unittest.TestCase):
 
     def test_what_was_never_seen(self):
         sizes = ["a sample with 1 block", "a sample with 2 to 63 blocks", "a sample with 64 blocks"]
-        self.assertEqual(feeds.Tally(2).missing()[-5:], ["a runaway", "a slight descent", *sizes])
+        silences = ["a silence kept at 5 s", "a silence given up at 6 s", "a silence with none yet",
+                    "a silence kept while recharging", "a silence that counts as front while recharging"]
+        last = [*sizes, *silences, "a parting of the choices by a value given up", "a parting of the choices by none yet"]
+        self.assertEqual(feeds.Tally(2).missing()[-12:], ["a runaway", "a slight descent", *last])
         seen = feeds.Tally(2)
         seen.slight += 1
-        self.assertEqual(seen.missing()[-4:], ["a runaway", *sizes])
+        self.assertEqual(seen.missing()[-11:], ["a runaway", *last])
         for said, named in (("x 10", "refusal 10"), ("x 13", "refusal 13")):
             seen = feeds.Tally(2)
             self.assertIn(named, seen.missing())
@@ -46,7 +49,8 @@ class Tally(unittest.TestCase):
             for output, other in ((garbage, good), (good, garbage), (garbage, garbage)):
                 tally = feeds.Tally(1, [feeds.first_crossing(), feeds.hundredths(), feeds.evenly()])
                 tally.add(feed, output)
-                self.assertEqual([one.add(feed, output, other) for one in tally.earlier], 3 * [output == other])
+                rules = (*tally.earlier, tally.choices)
+                self.assertEqual([one.add(feed, output, other) for one in rules], 4 * [output == other])
                 self.assertIn("compared 1 feeds", tally.table())
 
 

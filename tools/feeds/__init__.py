@@ -1,8 +1,8 @@
 """feeds - the feeds of the session program: their records, their readable text, and random ones.
 
 `tools/feed` is the command over it.  What the other tools take from it stands here; the modules
-hold one topic each: records, answers (what is printed for them), rises, finer and weighing (what R-2,
-R-11 and R-1 change in that), tally (what a comparison has seen), binary32, words and making (text to a
+hold one topic each: records, answers (what is printed for them), rises, finer, weighing and silences (what
+R-2, R-11, R-1 and R-7 change in that), tally (what a comparison has seen), binary32, words and making (text to a
 feed), showing (a feed to text), chance, trains, loads, motion and walks (what random feeds are made of),
 a module for each few kinds of random feeds, and kinds, which knows them all.
 """
@@ -17,6 +17,7 @@ from .records import (CONSIST, SAMPLE_BYTES, SAMPLE_WIDTHS, TARGET_BYTES, TARGET
 from .rises import RISES, rise
 from .runaways import runaways
 from .showing import show, show_reading
+from .silences import parting, silences
 from .tally import Tally, evenly, first_crossing, hundredths
 from .weighing import WEIGHED, weighed
 from .words import BadText
@@ -24,5 +25,5 @@ from .words import BadText
 __all__ = ["BadText", "CONSIST", "FINER", "Feed", "KIND_NAMES", "RISES", "SAMPLE_BYTES", "SAMPLE_WIDTHS",
            "TARGET_BYTES", "TARGET_WIDTHS", "Tally", "UNLIKE", "WEIGHED", "answers", "blocks_of", "consist_of",
            "evenly", "finer", "first_crossing", "hundredths", "kind_of", "make", "nearest_bits", "pack_block",
-           "pack_sample", "pack_target", "random_feed", "rise", "runaways", "show", "show_reading",
-           "slight_descents", "split", "unpack", "value_of", "weighed"]
+           "pack_sample", "pack_target", "parting", "random_feed", "rise", "runaways", "show", "show_reading",
+           "silences", "slight_descents", "split", "unpack", "value_of", "weighed"]

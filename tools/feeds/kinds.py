@@ -8,6 +8,7 @@ from .emergencies import emergency
 from .grades import grades
 from .manifests import manifest
 from .pipes import brakes
+from .quiet import quiet
 from .runaways import runaway
 from .trips import light, trip
 from .undulations import undulating
@@ -15,13 +16,13 @@ from .undulations import undulating
 # Their order is part of what a seed means.
 KINDS = {"trip": trip, "brakes": brakes, "edges": edges, "light": light, "grades": grades,
          "brink": brink, "damaged": damaged, "cut": cut, "runaway": runaway, "emergency": emergency,
-         "undulating": undulating, "manifest": manifest}
+         "undulating": undulating, "manifest": manifest, "quiet": quiet}
 KIND_NAMES = tuple(KINDS)
 
 # Where no kind is named the seeds go round this list, so that any few hundred
 # seeds in a row hold each kind in its share.
-ROUND = ("trip", "brakes", "light", "edges", "manifest", "damaged", "trip", "brakes", "grades", "undulating",
-         "edges", "trip", "brink", "manifest", "brakes", "cut", "edges", "trip", "light", "undulating", "manifest",
+ROUND = ("trip", "brakes", "light", "edges", "manifest", "damaged", "trip", "quiet", "grades", "undulating",
+         "edges", "trip", "brink", "manifest", "brakes", "cut", "edges", "quiet", "light", "undulating", "manifest",
          "brakes", "damaged", "edges", "grades", "trip", "brink", "runaway", "emergency", "undulating")
 
 

@@ -6,6 +6,7 @@ from .answers import UNLIKE, answers_of
 from .finer import FINER, finer, slight_descents
 from .rises import RISES, rise
 from .runaways import runaways
+from .silences import CHOICES, SilencesSeen, parting
 from .weighing import WEIGHED, BlocksSeen, weighed
 
 STATES = range(0, 6)
@@ -32,7 +33,8 @@ def refusal_of(line):
 
 
 class Earlier:
-    """How often program 1 answers otherwise than one that keeps an earlier rule: the feeds by what they show, and the samples."""
+    """How often program 1 answers otherwise than one that keeps an earlier rule, or than itself under the everlasting choice: the
+    feeds by what they show, and the samples."""
 
     def __init__(self, name, count, shows, wanted):
         self.name = name
@@ -75,10 +77,17 @@ def evenly():
         "nearer": "a nearer stop by weight"})
 
 
+def everlasting():
+    """Program 1 under the everlasting choice in place of R-7's default."""
+    return Earlier("choices", parting, CHOICES, {
+        "given up": "a parting of the choices by a value given up", "none yet": "a parting of the choices by none yet"})
+
+
 class Tally:
     """What was seen; `earlier` are the programs after those that are compared, in their order."""
 
     def __init__(self, programs, earlier=()):
+        self.programs = programs
         self.feeds = self.lines = self.odd = self.runaways = self.slight = 0
         self.states = Counter()
         self.causes = Counter()
@@ -88,13 +97,17 @@ class Tally:
         self.stood = Counter()          # by cause and state
         self.kinds = Counter()
         self.blocks = BlocksSeen()
+        self.silences = SilencesSeen()
+        self.choices = everlasting()
         self.earlier = list(earlier)
-        self.ends = [Counter() for _ in range(programs + len(self.earlier))]
+        # by default, those of the earlier rules too; then under the everlasting choice
+        self.ends = [Counter() for _ in range(2 * programs + len(self.earlier))]
 
     def add(self, feed, output):
         self.feeds += 1
         self.runaways += runaways(feed, output)
         self.slight += slight_descents(feed, output)
+        self.silences.add(feed, output)
         standing, before = 0, self.accepted()
         for first, second in answers_of(output):
             lines = 1 + (second is not None)
@@ -125,9 +138,14 @@ class Tally:
         return cause
 
     def add_ends(self, ends):
-        """How each program ended."""
+        """How each run ended."""
         for counter, end in zip(self.ends, ends):
             counter[str(end)] += 1
+
+    def exits(self, ends):
+        """Of programs in their order."""
+        return "; ".join("program %d " % number + ", ".join("%s:%d" % pair for pair in sorted(counter.items()))
+                         for number, counter in enumerate(ends, 1))
 
     def missing(self):
         return (["state %d" % n for n in STATES if not self.states[n]]
@@ -139,6 +157,8 @@ class Tally:
                 + ["a runaway"] * (not self.runaways)
                 + ["a slight descent"] * (not self.slight)
                 + self.blocks.missing()
+                + self.silences.missing()
+                + self.choices.missing()
                 + [name for one in self.earlier for name in one.missing()])
 
     def table(self):
@@ -158,8 +178,9 @@ class Tally:
             "runaways  %d" % self.runaways,
             "slight    %d" % self.slight,
             self.blocks.row(),
+            self.silences.row(),
+            self.choices.row(),
         ] + [one.row() for one in self.earlier] + [
-            "exits     " + "; ".join(
-                "program %d " % number + ", ".join("%s:%d" % pair for pair in sorted(ends.items()))
-                for number, ends in enumerate(self.ends, 1)),
+            "exits     " + self.exits(self.ends[:-self.programs]),
+            "          everlasting: " + self.exits(self.ends[-self.programs:]),
         ] + (["%d lines are neither a decision nor a refusal" % self.odd] if self.odd else []))
