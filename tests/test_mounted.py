@@ -12,13 +12,14 @@ from feeds import random_feed
 
 FLAGS = ["-DSECOND_NO_MAIN", "-I" + os.path.join(ROOT, "include")]
 HEADER = os.path.join(ROOT, "include", "buongilach.h")
-STANDIN = [os.path.join(ROOT, "tests", name) for name in ("standin.c", "standin_consists.c", "standin_sessions.c")]
+STANDIN = [os.path.join(ROOT, "tests", name) for name in ("standin.c", "standin_consists.c", "standin_rears.c",
+                                                                 "standin_sessions.c")]
 MANIFEST = os.path.join(ROOT, "tests", "manifest.c")
 HOSTILE = sorted(os.path.join(EXAMPLES, "hostile", name) for name in os.listdir(os.path.join(EXAMPLES, "hostile"))
                  if name.endswith(".c"))
 # The stand-in takes its answers from the rules that hostile expects.
-EXPECTED = [os.path.join(EXAMPLES, "hostile", name) for name in ("expected.c", "expected_consist.c")]
-SESSION_BYTES = 301
+EXPECTED = [os.path.join(EXAMPLES, "hostile", name) for name in ("expected.c", "expected_consist.c", "expected_held.c")]
+SESSION_BYTES = 304
 
 
 def build(name, *sources):
@@ -92,10 +93,10 @@ class Examples(unittest.TestCase):
         standin = built.library("standin.so", *FLAGS, *STANDIN, *EXPECTED, built.SECOND)
         shown = [bytes.fromhex(words) for words in re.findall(
             r"^\| (?:manifest, the )?(?:consist|session)[^|]*\| `([0-9A-F ]+)` \|$", page("RECORDS.md"), re.M)]
-        self.assertEqual([len(each) for each in shown], [16, 41, 24, 53])
+        self.assertEqual([len(each) for each in shown], [16, 44, 24, 56])
         for consist, session in (shown[:2], shown[2:]):
-            room = ctypes.create_string_buffer(b"\xa5" * 310, 310)
-            self.assertEqual(standin.buongilach_open(room, ctypes.c_size_t(310), consist, ctypes.c_size_t(len(consist))), 0)
+            room = ctypes.create_string_buffer(b"\xa5" * 313, 313)
+            self.assertEqual(standin.buongilach_open(room, ctypes.c_size_t(313), consist, ctypes.c_size_t(len(consist))), 0)
             self.assertEqual(room.raw, session.ljust(SESSION_BYTES, b"\0") + b"\xa5" * 9)
 
 
