@@ -36,8 +36,8 @@ int64_t second_nominal(int64_t set, int64_t front, int64_t rear)
 }
 
 /* "A first sample counts rate 0 and 0 seconds elapsed.  Otherwise rate is
- * (front minus last front) divided by the elapsed seconds, down.  A lost rear
- * counts as the last rear, or as front in the first sample." */
+ * (front minus last front) divided by the elapsed seconds, down."  A lost rear
+ * counts as quiet.c tells. */
 second_counted second_count(const second_brakes *brakes, const second_consist *train,
                             const second_sample *sample, int first)
 {
@@ -47,7 +47,7 @@ second_counted second_count(const second_brakes *brakes, const second_consist *t
         now.rate = (int64_t)second_down(now.front - brakes->last_front, now.elapsed);
     }
     if (!sample->rear_present)
-        now.rear = first ? now.front : brakes->last_rear;
+        now.rear = second_lost_rear(brakes, sample, first);
     now.nominal = second_nominal(train->set, now.front, now.rear);
     return now;
 }
@@ -228,4 +228,5 @@ void second_update_brakes(second_brakes *brakes, const second_consist *train,
     brakes->last_front = now.front;
     brakes->last_rear = now.rear;
     brakes->last_time = sample->time;
+    second_hear(brakes, sample);
 }

@@ -1,5 +1,5 @@
 /*
- * program.c - the session program: standard input to lines.
+ * program.c - the session program: a word or none, and standard input to lines.
  */
 
 /* What standard input has given before the samples. */
@@ -49,7 +49,7 @@ int second_take_blocks(unsigned char *blocks, size_t *count)
 
 /* "Consist": 0, or what it is refused for.  2, 4 and 5 are judged on the 16 bytes alone,
  * before the block count is taken (decision 142). */
-int second_take_consist(second_session *session)
+int second_take_consist(second_session *session, second_choice choice)
 {
     unsigned char bytes[SECOND_CONSIST_BYTES + SECOND_BLOCK_BYTES * SECOND_BLOCKS_MOST];
     second_consist alone;
@@ -60,7 +60,7 @@ int second_take_consist(second_session *session)
         refusal = second_take_blocks(bytes + SECOND_CONSIST_BYTES, &more);
     if (refusal != 0)
         return refusal;
-    return second_open(session, bytes, SECOND_CONSIST_BYTES + more);
+    return second_open_with(session, bytes, SECOND_CONSIST_BYTES + more, choice);
 }
 
 /* "Two-byte record count (high byte first) and profile": 0, or 6 where it is
@@ -117,19 +117,37 @@ void second_run_samples(second_session *session)
     }
 }
 
+/* "The old choice" of 02, R-7, is one word, and no word is the default (decision 152): 0,
+ * with the choice, or 2 for any other word and for more than one. */
+int second_take_words(int count, char **words, second_choice *choice)
+{
+    *choice = SECOND_FIVE_SECONDS;
+    if (count < 2)
+        return 0;
+    *choice = SECOND_EVERLASTING;
+    return count == 2 && strcmp(words[1], "everlasting") == 0 ? 0 : 2;
+}
+
 /* "The session program reads standard input: consist, two-byte record count
  * (high byte first) and profile, one-byte count and targets, then samples.  A
  * refused consist prints `x` and its number and ends; a broken or short profile
  * prints `x 6`, targets `x 7`, and end."  The blocks are the consist's (02, R-1).  Its
- * status is 0, or 1 where the output could not be written (decision 41). */
-int main(void)
+ * status is 0, or 1 where the output could not be written (decision 41), or 2 for a wrong
+ * word, before any byte is read (decision 152). */
+int main(int count, char **words)
 {
     static second_session session;
+    second_choice choice;
+
+    if (second_take_words(count, words, &choice) != 0) {
+        fprintf(stderr, "second: one word, everlasting, or none\n");
+        return 2;
+    }
 
     /* Nothing is taken from standard input before it is needed. */
     setvbuf(stdin, NULL, _IONBF, 0);
 
-    int refusal = second_take_consist(&session);
+    int refusal = second_take_consist(&session, choice);
     if (refusal == 0)
         refusal = second_take_profile();
     if (refusal == 0)

@@ -8,6 +8,9 @@
  *
  *     gcc -O2 -std=c11 -DSECOND_NO_MAIN -c second/second.c
  *
+ * The program takes one word, `everlasting`, or none: what a lost rear counts as (02, R-7;
+ * decision 152).
+ *
  * With -DSECOND_CHECKED, as the build with sanitizers has it, the program ends
  * where what second_holds() says does not hold.
  *
@@ -44,6 +47,7 @@
 #include "numbers.c"
 #include "readings.c"
 #include "records.c"
+#include "quiet.c"
 #include "brakes.c"
 #include "averages.c"
 #include "walk.c"

@@ -39,9 +39,18 @@ typedef struct {
     second_blocks blocks;
 } second_consist;
 
-/* What the air brakes hold from sample to sample. */
+/* What a lost rear counts as: "the new default", or "the old choice" (02, R-7). */
+typedef enum {
+    SECOND_FIVE_SECONDS,
+    SECOND_EVERLASTING
+} second_choice;
+
+/* What the air brakes hold from sample to sample, and the choice that they are opened with. */
 typedef struct {
     int64_t state, hold, a, b, equalization, fall, last_front, last_rear, last_time;
+    second_choice choice;
+    int heard;             /* an accepted sample had a present rear */
+    int64_t heard_at;      /* the time of the last such one; 0 for never */
 } second_brakes;
 
 /* A session.  All zero is "no session is open". */
@@ -92,9 +101,11 @@ typedef struct {
 
 /*
  * Opens a session: 16 bytes, and 4 for each block.  0, or a refusal number (2, 4, 5, 13)
- * with the session as it was.
+ * with the session as it was.  second_open takes the default, SECOND_FIVE_SECONDS.
  */
 int second_open(second_session *session, const unsigned char *bytes, size_t count);
+int second_open_with(second_session *session, const unsigned char *bytes, size_t count,
+                     second_choice choice);
 
 /*
  * Judges one sample.  0 with the two decisions in the first 16 bytes of output,

@@ -2,10 +2,11 @@
  * session.c - opening a session, and judging a sample.
  */
 
-/* "Opening gives state 0, hold = A = set, B = 0, fall 0, equalization 0."
- * "Opening uses 2, 4 and 5", and 13 for the blocks (02, R-1); "if refused, an earlier
- * session stays as it was." */
-int second_open(second_session *session, const unsigned char *bytes, size_t count)
+/* "Opening gives state 0, hold = A = set, B = 0, fall 0, equalization 0", and the choice
+ * with the rear never yet heard (02, R-7).  "Opening uses 2, 4 and 5", and 13 for the
+ * blocks (02, R-1); "if refused, an earlier session stays as it was." */
+int second_open_with(second_session *session, const unsigned char *bytes, size_t count,
+                     second_choice choice)
 {
     second_consist train;
     int refusal = second_read_consist(bytes, count, &train);
@@ -17,7 +18,14 @@ int second_open(second_session *session, const unsigned char *bytes, size_t coun
     session->brakes.state = SECOND_CHARGED;
     session->brakes.hold = train.set;
     session->brakes.a = train.set;
+    session->brakes.choice = choice;
     return 0;
+}
+
+/* "The new default" (02, R-7). */
+int second_open(second_session *session, const unsigned char *bytes, size_t count)
+{
+    return second_open_with(session, bytes, count, SECOND_FIVE_SECONDS);
 }
 
 /* "9: time not 1 to 5 seconds after the last accepted sample."  "The session's

@@ -10,6 +10,8 @@ import subprocess
 import built
 from here import feeds
 
+# The choice of the everlasting value, on the command line.
+EVERLASTING = ("everlasting",)
 TRAIN = {"cars": 10, "axles": 40, "weight": 1000, "length": 600, "rated": 200000,
          "application": 30000, "recharge": 50, "set": 9000, "offset": 500}
 LEVEL = "profile 0\nprofile 40000\n"
@@ -18,9 +20,9 @@ CASE = ((0, 5000, "0.0", "90.0", "90.0"), (1, 5000, "1.0", "90.0", "90.0"),
         (2, 5001, "0.0", "90.0", "90.0"))
 
 
-def run(data, *build):
-    """What the program prints for a feed, or a build of it."""
-    done = subprocess.run([built.second(*build)], input=data, stdout=subprocess.PIPE,
+def run(data, *build, words=()):
+    """What the program prints for a feed, or a build of it; with words on its command line."""
+    done = subprocess.run([built.second(*build), *words], input=data, stdout=subprocess.PIPE,
                           stderr=subprocess.PIPE, check=False)
     if done.returncode != 0 or done.stderr:
         raise AssertionError("status %d: %s" % (done.returncode, done.stderr.decode()))
@@ -65,9 +67,9 @@ def told(lines):
     return pairs
 
 
-def both(samples, build=(), **more):
+def both(samples, build=(), words=(), **more):
     """The pairs of lines for such a feed."""
-    return told(run(made(samples, **more), *build).splitlines())
+    return told(run(made(samples, **more), *build, words=words).splitlines())
 
 
 def printed(samples, **more):
@@ -106,7 +108,7 @@ def train_of(blocks=(), **train):
 class Brakes(ctypes.Structure):
     _fields_ = [(name, ctypes.c_int64) for name in (
         "state", "hold", "a", "b", "equalization", "fall", "last_front", "last_rear",
-        "last_time")]
+        "last_time")] + [(name, ctypes.c_int) for name in ("choice", "heard")] + [("heard_at", ctypes.c_int64)]
 
 
 class Session(ctypes.Structure):

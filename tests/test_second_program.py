@@ -9,7 +9,7 @@ import unittest
 
 import built
 from here import example, examples, feeds
-from second_program import CASE, made, parts, run
+from second_program import CASE, EVERLASTING, made, parts, run
 
 # 16 consist, 1 for no blocks, 2 + 12 profile, 1 + 5 targets, samples from 37 on.
 WHOLE = made(CASE[:2], targets="target 5531 speed 0")
@@ -85,19 +85,21 @@ class Program(unittest.TestCase):
 class Sanitized(unittest.TestCase):
     """No undefined behaviour: the program built with sanitizers says the same."""
 
-    def same(self, given):
+    def same(self, given, words=()):
         names = [os.path.join(built.place(), name) for name in ("feeds", "one")]
         with open(names[0], "wb") as file:
             for data in given:
                 file.write(len(data).to_bytes(4, "big") + data)
         # the search for leaks takes seconds, and nothing is allocated
-        done = subprocess.run([built.checked(), *names], stdout=subprocess.PIPE, stderr=subprocess.PIPE, check=False,
+        done = subprocess.run([built.checked(), *names, *words], stdout=subprocess.PIPE, stderr=subprocess.PIPE, check=False,
                               env=dict(os.environ, ASAN_OPTIONS="detect_leaks=0"))
         self.assertEqual((done.returncode, done.stderr), (0, b""))
-        self.assertEqual(done.stdout.decode(), "".join(run(data) + "end\n" for data in given))
+        self.assertEqual(done.stdout.decode(), "".join(run(data, words=words) + "end\n" for data in given))
 
     def test_random_feeds(self):
-        self.same([feeds.random_feed(seed) for seed in range(300)])
+        given = [feeds.random_feed(seed) for seed in range(300)]
+        self.same(given)
+        self.same(given[:100], EVERLASTING)
 
     def test_examples_and_figures(self):
         names = examples() + ["figures/" + name for name in examples("figures")]

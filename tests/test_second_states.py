@@ -2,21 +2,21 @@
 
 import unittest
 
-from second_program import printed, psi
+from second_program import EVERLASTING, printed, psi
 
 
 class States(unittest.TestCase):
     """Worked by hand.  Set 9,000 and 30,000 ms: a service application falls by 85 a second to 6,428
     or the front.  Recharge is 50 a second."""
 
-    def states(self, pipe, **train):
+    def states(self, pipe, **more):
         """pipe: (time, front, rear or None for lost or "" for like front, state)."""
         samples, want = [], []
         for time, front, rear, state in pipe:
             rear = "lost" if rear is None else psi(front if rear == "" else rear)
             samples.append((time, 5000, "0.0", psi(front), rear))
             want.append("%d %d 0 0 5000" % (time, state))
-        self.assertEqual(printed(samples, **train), want)
+        self.assertEqual(printed(samples, **more), want)
 
     # Charged to state 2: A and the hold are 8,500, B is 1,247 (five times
     # floor(85 * 5 / 2) = 212, and floor(75 * 5 / 2) = 187).
@@ -256,9 +256,10 @@ class States(unittest.TestCase):
         # half of 200, 8,900: 8,500 needs eight seconds, then state 0.
         pipe = [(0, 8800, None, 0), (1, 8500, None, 1)]
         pipe += [(time, 8500, None, 1) for time in range(2, 7)]
-        pipe += [(7, 8500, None, 2), (8, 9000, None, 5), (13, 9000, None, 5), (16, 9000, None, 5),
-                 (17, 9000, None, 0)]
-        self.states(pipe)
+        pipe += [(7, 8500, None, 2), (8, 9000, None, 5), (13, 9000, None, 5), (16, 9000, None, 5)]
+        self.states(pipe + [(17, 9000, None, 0)], words=EVERLASTING)
+        # By default each counts as its own front: nominal is 9,000, which needs ten.
+        self.states(pipe + [(17, 9000, None, 5), (18, 9000, None, 5), (19, 9000, None, 0)])
 
 
 if __name__ == "__main__":
