@@ -15,7 +15,7 @@ void trip_rear(trip *t, bool present)
     made_sample(t->sample, t->time, t->head, made_reading(t->speed), made_reading(t->front), present, made_reading(rear));
 }
 
-static bool made_present(void)
+static bool mostly_present(void)
 {
     return !made_once_in(5);
 }
@@ -62,7 +62,7 @@ static void begin(trip *t)
     t->speed = made_speed(t);
     t->targets_bytes = t->rolling ? made_restrictions(t->targets, t->head, t->speed) : made_targets(t->targets, t->head);
     t->front = (uint32_t)made_between(7000, 11000);
-    trip_rear(t, made_present());
+    trip_rear(t, mostly_present());
     open_session(t);
 }
 
@@ -120,14 +120,14 @@ void trip_go_on(trip *t, uint32_t elapsed, bool present)
 
 void trip_go(trip *t)
 {
-    trip_go_on(t, (uint32_t)made_between(1, 5), made_present());
+    trip_go_on(t, (uint32_t)made_between(1, 5), mostly_present());
 }
 
 void trip_to_board(trip *t)
 {
     t->targets_bytes = made_board(t->targets, t->head);
     t->speed += t->speed == 0;
-    trip_rear(t, made_present());
+    trip_rear(t, mostly_present());
 }
 
 void trip_retarget(trip *t)
