@@ -26,7 +26,9 @@ enum {
     STEPS = 2048,
     STEP_FEET = 16,
     REACH = STEPS * STEP_FEET,
-    NO_STOP = 16777215
+    NO_STOP = 16777215,
+    KEPT_SECONDS = 5,         /* how long a lost rear counts as the last present one */
+    NEVER = -1 - KEPT_SECONDS /* a time that every sample's is further from */
 };
 
 enum { CHARGED, APPLYING_SERVICE, HOLDING_SERVICE, APPLYING_EMERGENCY, HOLDING_EMERGENCY, CHARGING };

@@ -23,6 +23,7 @@ typedef struct {
 typedef struct {
     int state;
     int64_t hold, a, b, equalization, fall, last_front, last_rear, last_time;
+    int64_t last_heard; /* the time of the last present rear */
 } plain_brakes;
 
 /* All zero is "no session is open". */

@@ -3,10 +3,15 @@
  * on standard output two lines for each accepted sample, the penalty's and emergency's, and one for each refused.
  *
  *     gcc -std=c11 -Iinclude -o mounted examples/mounted.c lib/libbuongilach.a
+ *     ./mounted [everlasting] < FEED
+ *
+ * A lost rear counts as the last present one for 5 seconds and then as front; for ever, where that is asked. Exit status 0; 1 where
+ * the output could not be written; 2 for any other word, and nothing is read then.
  */
 #include "buongilach.h"
 
 #include <stdio.h>
+#include <string.h>
 
 /* Everything that the predictor needs between two samples. */
 static uint8_t session[BUONGILACH_SESSION_BYTES];
@@ -40,7 +45,7 @@ static void print_decision(const uint8_t *decision)
 }
 
 /* The consist's 16 bytes, judged by themselves, a count of one byte and the blocks, and with them a new session. */
-static unsigned open_session(void)
+static unsigned open_session(bool everlasting)
 {
     uint8_t consist[BUONGILACH_CONSIST_BYTES_MOST];
     uint8_t count;
@@ -53,7 +58,7 @@ static unsigned open_session(void)
     size_t blocks_bytes = (size_t)count * BUONGILACH_BLOCK_BYTES;
     if (take(consist + BUONGILACH_CONSIST_BYTES, blocks_bytes) != blocks_bytes)
         return BUONGILACH_BROKEN_BLOCKS;
-    return buongilach_open(session, sizeof session, consist, BUONGILACH_CONSIST_BYTES + blocks_bytes);
+    return buongilach_open_with(session, sizeof session, consist, BUONGILACH_CONSIST_BYTES + blocks_bytes, everlasting);
 }
 
 /* A record count of two bytes, high byte first, and the profile. A count out of range is answered without reading on. */
@@ -84,9 +89,9 @@ static unsigned take_targets(void)
     return buongilach_judge_targets(targets, targets_bytes);
 }
 
-static unsigned take_head_of_feed(void)
+static unsigned take_head_of_feed(bool everlasting)
 {
-    unsigned refusal = open_session();
+    unsigned refusal = open_session(everlasting);
     if (refusal == BUONGILACH_ACCEPTED)
         refusal = take_profile();
     if (refusal == BUONGILACH_ACCEPTED)
@@ -107,11 +112,16 @@ static void judge(const uint8_t *sample, size_t sample_bytes)
     }
 }
 
-int main(void)
+int main(int count, char **words)
 {
+    bool everlasting = count == 2 && strcmp(words[1], "everlasting") == 0;
+    if (count > 1 && !everlasting) {
+        fprintf(stderr, "mounted: the one word that it takes is `everlasting`\n");
+        return 2;
+    }
     /* a decision is out as soon as it is made */
     setvbuf(stdout, NULL, _IOLBF, BUFSIZ);
-    unsigned refusal = take_head_of_feed();
+    unsigned refusal = take_head_of_feed(everlasting);
     if (refusal != BUONGILACH_ACCEPTED) {
         print_refusal(refusal);
     } else {

@@ -39,7 +39,7 @@ extern "C" {
 #endif
 
 /* The version of this header, major * 1,000,000 + minor * 1,000 + patch. */
-#define BUONGILACH_VERSION_MAJOR 6
+#define BUONGILACH_VERSION_MAJOR 7
 #define BUONGILACH_VERSION_MINOR 0
 #define BUONGILACH_VERSION_PATCH 0
 #define BUONGILACH_VERSION (BUONGILACH_VERSION_MAJOR * 1000000 + BUONGILACH_VERSION_MINOR * 1000 + BUONGILACH_VERSION_PATCH)
@@ -48,7 +48,7 @@ extern "C" {
 uint32_t buongilach_version(void);
 
 enum {
-    BUONGILACH_SESSION_BYTES = 301,      /* a session's buffer, with blocks or without */
+    BUONGILACH_SESSION_BYTES = 304,      /* a session's buffer, with blocks or without */
     BUONGILACH_CONSIST_BYTES = 16,       /* a consist without blocks */
     BUONGILACH_BLOCK_BYTES = 4,          /* what each block adds to it */
     BUONGILACH_BLOCKS_MOST = 64,
@@ -71,7 +71,7 @@ enum {
 /* What a call answers. docs/MOUNTING.md says what each asks of the caller. */
 enum buongilach_refusal {
     BUONGILACH_ACCEPTED = 0,
-    BUONGILACH_NO_SESSION = 1,     /* a sample, and no open session's record stands at the front of 301 bytes */
+    BUONGILACH_NO_SESSION = 1,     /* a sample, and no open session's record stands at the front of 304 bytes */
     BUONGILACH_WRONG_LENGTH = 2,   /* a consist is under 16 bytes, a sample not 20, a decision that is read not 8 */
     BUONGILACH_WRONG_MARK = 3,     /* a wrong mark; a sample's spare bit set, or its rear lost with rear bits not zero */
     BUONGILACH_OUT_OF_RANGE = 4,   /* a field of a consist or a decision; a sample's time or head over 24 bits (writer) */
@@ -82,7 +82,7 @@ enum buongilach_refusal {
     BUONGILACH_WRONG_TIME = 9,     /* not 1 to 5 seconds after the last accepted sample */
     BUONGILACH_NOT_COVERED = 10,   /* head less than the train's length, or a profile too short before or behind it */
     /* 11 is retired: it is proved that no input gives it, and the number is not used again */
-    BUONGILACH_NO_ROOM = 12,       /* fewer bytes (or numbers) to write to than are asked for: 16 bytes by a sample call, 301 by an
+    BUONGILACH_NO_ROOM = 12,       /* fewer bytes (or numbers) to write to than are asked for: 16 bytes by a sample call, 304 by an
                                       opening */
     BUONGILACH_BROKEN_BLOCKS = 13  /* a consist's blocks break a rule, their byte count included */
 };
@@ -113,18 +113,31 @@ enum buongilach_number {
 /* ---- the session */
 
 /*
- * A session is a record at the front of a buffer of 301 bytes or more: 41 bytes, and where its consist has blocks 4 more for each
- * and another 4. An accepted call writes the record and sets the bytes past it, up to the 301st, to 0; no call reads those, and
- * none reads or writes a byte from the 302nd on. Check words guard the record: one in which one byte or two were changed, wherever,
+ * A session is a record at the front of a buffer of 304 bytes or more: 44 bytes, and where its consist has blocks 4 more for each
+ * and another 4. An accepted call writes the record and sets the bytes past it, up to the 304th, to 0; no call reads those, and
+ * none reads or writes a byte from the 305th on. Check words guard the record: one in which one byte or two were changed, wherever,
  * is no open session's; where more were changed, only chance makes it one.
  */
 
 /*
- * Opens a session, whatever stood in its buffer. The consist is 16 bytes, and 4 more for each of its blocks.
- * Refuses 2, 4, 5 (the consist), 12 (`session` under 301 bytes, whatever the consist), 13 (the consist's blocks). Refused, an
+ * Opens a session, whatever stood in its buffer. The consist is 16 bytes, and 4 more for each of its blocks. A lost rear reading
+ * counts in this session as the last present one for 5 seconds, and then as front: buongilach_open_with with `everlasting` 0.
+ * Refuses 2, 4, 5 (the consist), 12 (`session` under 304 bytes, whatever the consist), 13 (the consist's blocks). Refused, an
  * earlier session stays as it was.
  */
 uint8_t buongilach_open(uint8_t *session, size_t session_bytes, const uint8_t *consist, size_t consist_bytes);
+
+/*
+ * The same with a choice of what a lost rear reading counts as, which the session keeps until it is opened anew:
+ *  - `everlasting` 0, the default: as the last present reading where that is at most 5 seconds old, exactly 5 too; as front, each
+ *    sample's own, where it is older or there was none since the opening;
+ *  - `everlasting` any other value, not only 1: as the last present reading, however old it is; where there was none, as the front
+ *    of the session's first sample.
+ * It is a whole uint32_t so that no wider value is cut to 0 on its way.
+ * Refuses what buongilach_open does, whatever `everlasting` is.
+ */
+uint8_t buongilach_open_with(uint8_t *session, size_t session_bytes, const uint8_t *consist, size_t consist_bytes,
+                             uint32_t everlasting);
 
 /*
  * Judges a sample. `session` begins with the record that an opening or the last accepted sample left. Profile and targets are
@@ -138,8 +151,10 @@ uint8_t buongilach_open(uint8_t *session, size_t session_bytes, const uint8_t *c
  * Emergency is predicted from the sample that calls the penalty on. It is called where the stop by emergency air is at or past a
  * target of speed 0 that lies from the head to 32,768 ft ahead, and once called it stands until a session is opened anew, whatever
  * targets are lent afterwards. There is no emergency without a penalty.
+ * A lost rear pressure is no refusal: the sample is judged with what it counts as under the session's choice (the openings, above),
+ * by default the last present one for 5 seconds and then front. Only accepted samples bring a present one.
  * Grade and curvature under the train are averaged by the weight of the consist's blocks, or evenly where it has none.
- * Refuses 1 (no open session's record, or `session` under 301 bytes), 2, 3, 6, 7, 8, 9, 10, 12 (`decision` under 16 bytes).
+ * Refuses 1 (no open session's record, or `session` under 304 bytes), 2, 3, 6, 7, 8, 9, 10, 12 (`decision` under 16 bytes).
  */
 uint8_t buongilach_sample(uint8_t *session, size_t session_bytes, const uint8_t *sample, size_t sample_bytes,
                           const uint8_t *profile, size_t profile_bytes, const uint8_t *targets, size_t targets_bytes,

@@ -12,4 +12,15 @@ bool planted(const char *fault);
 /* The answer, and where it is 0 so many due bytes written. */
 unsigned written(unsigned answer, uint8_t *out, const void *due, size_t count);
 
+/* What an opening takes for the choice that it is given. */
+uint32_t choice_taken(uint32_t everlasting);
+
+/* Makes a session's record one under which a lost rear is counted as by a wrong rule; `put_rear_back` makes the one that follows it
+ * hold what is due after `before` all the same, or what a wrong library keeps. */
+void miscount_rear(uint8_t *record, part sample);
+void put_rear_back(uint8_t *next, const uint8_t *before, part sample);
+
+/* Makes a sealed record one that a library takes which leaves a rule for choice, time heard or mark out. */
+void leave_rear_rule_out(uint8_t *record);
+
 #endif

@@ -5,13 +5,12 @@
 
 #include <string.h>
 
-enum { FRONT = 41, NO_BLOCKS = 0x55 }; /* of a session's record: the bytes before its blocks, and what its count is without any */
+enum { FRONT = EXPECTED_FRONT, NO_BLOCKS = 0x55 }; /* what a record's count is without blocks */
 
-uint8_t buongilach_open(uint8_t *session, size_t session_bytes, const uint8_t *consist, size_t consist_bytes)
+static uint8_t opened(uint8_t *session, size_t session_bytes, part given, uint32_t everlasting)
 {
     uint8_t due[BUONGILACH_SESSION_BYTES] = {0};
-    part given = part_of(consist, consist_bytes);
-    unsigned answer = expected_open(session_bytes, given, due);
+    unsigned answer = expected_open(session_bytes, given, everlasting, due);
     size_t written_bytes = BUONGILACH_SESSION_BYTES;
     if (planted("open: a byte past the session") && answer == 0)
         session[BUONGILACH_SESSION_BYTES] = 1;
@@ -21,17 +20,17 @@ uint8_t buongilach_open(uint8_t *session, size_t session_bytes, const uint8_t *c
         return 12;
     if (planted("open: 13 before 12") && answer == 12 && expected_judge_consist(given) == 13)
         return 13;
-    if (planted("open: 300 bytes will do") && answer == 12 && session_bytes == 300 && expected_judge_consist(given) == 0) {
-        answer = expected_open(BUONGILACH_SESSION_BYTES, given, due);
-        written_bytes = 300;
+    if (planted("open: 303 bytes will do") && answer == 12 && session_bytes == 303 && expected_judge_consist(given) == 0) {
+        answer = expected_open(BUONGILACH_SESSION_BYTES, given, everlasting, due);
+        written_bytes = 303;
     }
     if (planted("open: the record's own size will do") && answer == 12 && session_bytes >= FRONT
-        && consist_bytes == BUONGILACH_CONSIST_BYTES) {
-        answer = expected_open(BUONGILACH_SESSION_BYTES, given, due);
+        && given.count == BUONGILACH_CONSIST_BYTES) {
+        answer = expected_open(BUONGILACH_SESSION_BYTES, given, everlasting, due);
         written_bytes = FRONT;
     }
     if (planted("open: B not 0")) {
-        second_put_bits(due, 64, 16, 1);
+        second_put_bits(due, 88, 16, 1);
         expected_seal(due);
     }
     if (planted("open: not cleared past the record") && answer == 0)
@@ -41,13 +40,31 @@ uint8_t buongilach_open(uint8_t *session, size_t session_bytes, const uint8_t *c
     return (uint8_t)written(answer, session, due, written_bytes);
 }
 
+uint8_t buongilach_open(uint8_t *session, size_t session_bytes, const uint8_t *consist, size_t consist_bytes)
+{
+    return opened(session, session_bytes, part_of(consist, consist_bytes), planted("open: the everlasting choice"));
+}
+
+uint8_t buongilach_open_with(uint8_t *session, size_t session_bytes, const uint8_t *consist, size_t consist_bytes,
+                             uint32_t everlasting)
+{
+    if (planted("open_with: a wide choice refused") && everlasting > 1)
+        return 4;
+    uint8_t answer = opened(session, session_bytes, part_of(consist, consist_bytes), choice_taken(everlasting));
+    if (planted("open_with: a byte past the session") && answer == 0 && session_bytes > BUONGILACH_SESSION_BYTES)
+        session[BUONGILACH_SESSION_BYTES] ^= 1;
+    if (planted("open_with: shut by a refusal") && answer != 0 && session_bytes > 0)
+        session[0] ^= 1;
+    return answer;
+}
+
 bool buongilach_is_open(const uint8_t *session, size_t session_bytes)
 {
     expected_session held;
     uint8_t longer[BUONGILACH_SESSION_BYTES] = {0};
     if (planted("is_open: by the mark") && session_bytes >= BUONGILACH_SESSION_BYTES)
-        return session[0] == 0x42 && session[1] == NO_BLOCKS;
-    if (planted("is_open: 301 bytes only") && session_bytes > BUONGILACH_SESSION_BYTES)
+        return session[0] == 0x43 && session[1] == NO_BLOCKS;
+    if (planted("is_open: 304 bytes only") && session_bytes > BUONGILACH_SESSION_BYTES)
         return false;
     if (planted("is_open: the record's own size will do") && session_bytes >= FRONT && session_bytes < sizeof longer) {
         memcpy(longer, session, session_bytes);
@@ -90,7 +107,9 @@ static void leave_front_rule_out(uint8_t *record, bool sealed)
     if (planted("sample: an emergency without a penalty") && sealed && second_bits(record, 16, 4) == 0)
         second_put_bits(record, 16, 4, 1);
     if (planted("sample: an opening with any brakes") && sealed)
-        second_put_bits(record, 24, 1, 1);
+        second_put_bits(record, EXPECTED_SAMPLED, 1, 1);
+    if (sealed)
+        leave_rear_rule_out(record);
     if (sealed || planted("sample: the check word unread"))
         expected_seal(record);
 }
@@ -105,6 +124,8 @@ static const uint8_t *taken(const uint8_t *session, size_t session_bytes)
     if (is_held(session)) {
         size_t bytes = expected_record(session);
         if (planted("sample: bytes past the record read") && !is_clear(session + bytes, sizeof record - bytes))
+            record[0] = 0;
+        if (planted("sample: the choice's bit is spare") && second_bits(record, EXPECTED_CHOICE, 1) == 1)
             record[0] = 0;
         return record;
     }
@@ -127,22 +148,26 @@ static void rearrange(expected_session *held)
         held->consist_bytes = BUONGILACH_CONSIST_BYTES;
 }
 
-/* What is due of a sample, by a library that lets the blocks lie otherwise; what it holds of them stays. */
+/* What is due of a sample, by a library that lets the blocks lie otherwise or counts a lost rear otherwise; what it holds of either
+ * stays. */
 static unsigned due_of(part session, part sample, part profile, part targets, size_t room, uint8_t *next, uint8_t *decisions)
 {
     expected_session was, now;
-    uint8_t record[BUONGILACH_SESSION_BYTES];
+    uint8_t before[BUONGILACH_SESSION_BYTES], record[BUONGILACH_SESSION_BYTES];
     if (!expected_held(session, &was))
         return 1;
     now = was;
     rearrange(&now);
+    expected_bytes(&was, before);
     expected_bytes(&now, record);
+    miscount_rear(record, sample);
     unsigned answer = expected_sample(part_of(record, sizeof record), sample, profile, targets, room, next, decisions);
     if (answer != 0 || !expected_held(part_of(next, sizeof record), &now))
         return answer;
     memcpy(now.consist, was.consist, sizeof now.consist);
     now.consist_bytes = was.consist_bytes;
     expected_bytes(&now, next);
+    put_rear_back(next, before, sample);
     return answer;
 }
 
@@ -153,7 +178,7 @@ uint8_t buongilach_sample(uint8_t *session, size_t session_bytes, const uint8_t 
     uint8_t next[BUONGILACH_SESSION_BYTES];
     uint8_t due[BUONGILACH_BOTH_DECISIONS_BYTES + 1] = {0};
     uint8_t *const second = due + BUONGILACH_DECISION_BYTES;
-    if (planted("sample: 301 bytes only") && session_bytes > BUONGILACH_SESSION_BYTES)
+    if (planted("sample: 304 bytes only") && session_bytes > BUONGILACH_SESSION_BYTES)
         return 1;
     if (planted("sample: 12 before 3") && decision_bytes < BUONGILACH_BOTH_DECISIONS_BYTES
         && sample_bytes == BUONGILACH_SAMPLE_BYTES && buongilach_is_open(session, session_bytes))
@@ -187,13 +212,17 @@ uint8_t buongilach_sample(uint8_t *session, size_t session_bytes, const uint8_t 
     if (planted("sample: the penalty's cause for emergency's") && answer == 0 && second_bits(second, 35, 1) == 1)
         second_put_bits(second, 36, 4, second_bits(due, 36, 4));
     if (planted("sample: time kept when refused") && answer == 10) {
-        memcpy(session + 18, sample + 1, 3);
+        memcpy(session + 21, sample + 1, 3);
+        expected_seal(session);
+    }
+    if (planted("sample: heard when refused") && answer == 10) {
+        second_put_bits(session, EXPECTED_HEARD, EXPECTED_HEARD_WIDTH, second_bits(sample, 8, 24) + 1);
         expected_seal(session);
     }
     if (planted("sample: decision written when refused") && answer == 9)
         memset(decision, 0x44, decision_bytes);
     if (planted("sample: the last rear lost") && answer == 0) {
-        second_put_bits(next, 128, 16, 0);
+        second_put_bits(next, 152, 16, 0);
         expected_seal(next);
     }
     if (planted("sample: the session stays") && answer == 0)

@@ -12,13 +12,15 @@ from feeds import random_feed
 
 FLAGS = ["-DSECOND_NO_MAIN", "-I" + os.path.join(ROOT, "include")]
 HEADER = os.path.join(ROOT, "include", "buongilach.h")
-STANDIN = [os.path.join(ROOT, "tests", name) for name in ("standin.c", "standin_consists.c", "standin_sessions.c")]
+STANDIN = [os.path.join(ROOT, "tests", name) for name in ("standin.c", "standin_consists.c", "standin_rears.c",
+                                                                 "standin_sessions.c")]
 MANIFEST = os.path.join(ROOT, "tests", "manifest.c")
+QUIET = os.path.join(ROOT, "tests", "quiet.c")
 HOSTILE = sorted(os.path.join(EXAMPLES, "hostile", name) for name in os.listdir(os.path.join(EXAMPLES, "hostile"))
                  if name.endswith(".c"))
 # The stand-in takes its answers from the rules that hostile expects.
-EXPECTED = [os.path.join(EXAMPLES, "hostile", name) for name in ("expected.c", "expected_consist.c")]
-SESSION_BYTES = 301
+EXPECTED = [os.path.join(EXAMPLES, "hostile", name) for name in ("expected.c", "expected_consist.c", "expected_held.c")]
+SESSION_BYTES = 304
 
 
 def build(name, *sources):
@@ -32,8 +34,22 @@ def page(name):
         return file.read()
 
 
-def lines(program, given=b""):
-    return subprocess.run([program], input=given, stdout=subprocess.PIPE, check=True, timeout=60).stdout
+def lines(program, given=b"", words=()):
+    return subprocess.run([program, *words], input=given, stdout=subprocess.PIPE, check=True, timeout=60).stdout
+
+
+def section_of(heading):
+    """Of the page for whoever mounts it."""
+    return page("MOUNTING.md").split("## %s\n" % heading)[1].split("\n## ")[0]
+
+
+def shown(name, heading, source):
+    """What a program prints with the lines that a section shows."""
+    snippet, made = (os.path.join(built.place(), name + end) for end in (".h", ".o"))
+    with open(snippet, "w", encoding="utf-8") as file:
+        file.write("\n".join(re.findall(r"^    .*$", section_of(heading), re.M)) + "\n")
+    subprocess.run([*built.COMPILE, *FLAGS, '-DSNIPPET="%s"' % snippet, "-c", "-o", made, source], check=True)
+    return lines(build(name, made))
 
 
 class Header(unittest.TestCase):
@@ -59,8 +75,18 @@ class Examples(unittest.TestCase):
         feeds += [blocks[:length] for length in range(16, 16 + 1 + 4 * blocks[16] + 3)]
         feeds += [blocks[:16] + bytes([count]) + blocks[17:] for count in (0, 1, blocks[16] + 1, 64, 65, 255)]
         for number, given in enumerate(feeds):
-            with self.subTest(number=number):
-                self.assertEqual(lines(self.mounted, given), lines(self.second, given))
+            for words in ((), ("everlasting",)):
+                with self.subTest(number=number, words=words):
+                    self.assertEqual(lines(self.mounted, given, words), lines(self.second, given, words))
+
+    def test_mounted_takes_one_word(self):
+        """Any other is an error, before a byte is read."""
+        for words in (("ever",), ("everlasting!",), ("",), ("0",), ("everlasting", "everlasting"), ("everlasting", "")):
+            with self.subTest(words=words), open(os.path.join(EXAMPLES, "case.c"), "rb", buffering=0) as given:
+                done = subprocess.run([self.mounted, *words], stdin=given, stdout=subprocess.PIPE, stderr=subprocess.PIPE,
+                                      check=False, timeout=60)
+                self.assertEqual((done.returncode, done.stdout, given.tell()), (2, b"", 0))
+                self.assertRegex(done.stderr, rb"^[^\n]+\n$")
 
     def test_case(self):
         self.assertEqual(lines(self.case), b"0 0 0 0 5000\n0 0 0 0 0\n1 0 1 1 5032\n1 0 0 0 5032\n2 0 1 1 5001\n2 0 0 0 5001\n")
@@ -72,30 +98,29 @@ class Examples(unittest.TestCase):
         self.assertEqual(lines(build("case-cpp", made)), lines(self.case))
 
     def test_the_page_shows_the_case(self):
-        shown = re.findall(r"```c\n(.*?)```", page("MOUNTING.md"), re.S)
+        programs = re.findall(r"```c\n(.*?)```", page("MOUNTING.md"), re.S)
         with open(os.path.join(EXAMPLES, "case.c"), encoding="utf-8") as file:
-            self.assertEqual(shown, [file.read()])
+            self.assertEqual(programs, [file.read()])
 
     def test_the_page_shows_a_train_in_blocks(self):
         """Its lines open the session of which the page tells."""
-        section = page("MOUNTING.md").split("## A train in blocks\n")[1].split("\n## ")[0]
-        snippet = os.path.join(built.place(), "snippet.h")
-        with open(snippet, "w", encoding="utf-8") as file:
-            file.write("\n".join(re.findall(r"^    .*$", section, re.M)) + "\n")
-        made = os.path.join(built.place(), "manifest.o")
-        subprocess.run([*built.COMPILE, *FLAGS, '-DSNIPPET="%s"' % snippet, "-c", "-o", made, MANIFEST], check=True)
-        self.assertEqual(lines(build("manifest", made)), b"0 0 1 1 14520\n1 0 1 1 14549\n")
-        self.assertIn("14,520 ft", section)
+        self.assertEqual(shown("manifest", "A train in blocks", MANIFEST), b"0 0 1 1 14520\n1 0 1 1 14549\n")
+        self.assertIn("14,520 ft", section_of("A train in blocks"))
+
+    def test_the_page_shows_the_everlasting_choice(self):
+        """The default still charges, where the value that is kept for ever has charged."""
+        self.assertEqual(shown("quiet", "A rear device that goes quiet", QUIET),
+                         b"14 5 0 0 5000\n14 5 0 0 0\n14 0 0 0 5000\n14 0 0 0 0\n")
 
     def test_the_paper_has_the_sessions_just_opened(self):
         """docs/RECORDS.md shows the bytes that an opening leaves, without blocks and with."""
         standin = built.library("standin.so", *FLAGS, *STANDIN, *EXPECTED, built.SECOND)
-        shown = [bytes.fromhex(words) for words in re.findall(
+        records = [bytes.fromhex(words) for words in re.findall(
             r"^\| (?:manifest, the )?(?:consist|session)[^|]*\| `([0-9A-F ]+)` \|$", page("RECORDS.md"), re.M)]
-        self.assertEqual([len(each) for each in shown], [16, 41, 24, 53])
-        for consist, session in (shown[:2], shown[2:]):
-            room = ctypes.create_string_buffer(b"\xa5" * 310, 310)
-            self.assertEqual(standin.buongilach_open(room, ctypes.c_size_t(310), consist, ctypes.c_size_t(len(consist))), 0)
+        self.assertEqual([len(each) for each in records], [16, 44, 24, 56])
+        for consist, session in (records[:2], records[2:]):
+            room = ctypes.create_string_buffer(b"\xa5" * 313, 313)
+            self.assertEqual(standin.buongilach_open(room, ctypes.c_size_t(313), consist, ctypes.c_size_t(len(consist))), 0)
             self.assertEqual(room.raw, session.ljust(SESSION_BYTES, b"\0") + b"\xa5" * 9)
 
 

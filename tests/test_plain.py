@@ -40,12 +40,12 @@ def answers(opened, judged, data):
     return said
 
 
-def slipped(case, name, old, new, source):
-    """A library of plain C with one of the walk's lines changed."""
+def slipped(case, name, old, new, source, part="walk.c"):
+    """A library of plain C with one of its lines changed, of the walk or of another part."""
     folder = os.path.join(built.place(), name)
     shutil.copytree(os.path.join(ROOT, "bench"), os.path.join(folder, "bench"))
     shutil.copytree(os.path.join(ROOT, "tests"), os.path.join(folder, "tests"))
-    path = os.path.join(folder, "bench", "plain", "walk.c")
+    path = os.path.join(folder, "bench", "plain", part)
     with open(path) as file:
         words = file.read()
     case.assertEqual(words.count(old), 1)
@@ -54,7 +54,8 @@ def slipped(case, name, old, new, source):
     return built.library(name + ".so", os.path.join(folder, source))
 
 
-class Alike(unittest.TestCase):
+class Plain(unittest.TestCase):
+    """Plain C beside the second program."""
 
     @classmethod
     def setUpClass(cls):
@@ -64,6 +65,9 @@ class Alike(unittest.TestCase):
     def difference(self, plain, data):
         return (answers(plain.plain_open, plain.plain_sample, data)
                 != answers(self.second.second_open, self.second.second_judge, data))
+
+
+class Alike(Plain):
 
     def test_random_feeds(self):
         made = [feeds.random_feed(seed) for seed in range(400)] + [feeds.random_feed(seed, "manifest") for seed in range(60)]
@@ -97,6 +101,64 @@ class Alike(unittest.TestCase):
             with self.subTest(new=new):
                 slip = slipped(self, "slip-%d" % number, old, new, "bench/plain.c")
                 self.assertTrue(self.difference(slip, feeds.make(example(name))))
+
+
+# Service, and a release; the rear is told in some samples, and lost in the others.
+QUIET = """cars 10
+axles 40
+weight 1000
+length 600
+rated 200000
+application 30000
+recharge 50
+set 9000
+offset 500
+profile 0
+profile 40000
+"""
+
+
+def quiet(*samples):
+    """A train at rest; of each sample the time, the front and the rear."""
+    return feeds.make(QUIET + "".join("sample %d head 5000 speed 0.0 front %s rear %s\n" % sample for sample in samples))
+
+
+def silent(seconds):
+    """The last rear, 80 psi, so long before the end: the reservoirs are at 85, and charged where it still counts there."""
+    return quiet((0, "90.0", "90.0"), (1, "85.0", "85.0"), (6, "85.0", "85.0"), (8, "85.0", "80.0"), (6 + seconds, "85.0", "lost"),
+                 (7 + seconds, "90.0", "lost"), (8 + seconds, "90.0", "lost"))
+
+
+# No rear yet, and an application from the first sample on.
+UNHEARD = quiet((0, "85.0", "lost"), (1, "85.0", "lost"), (2, "90.0", "lost"), (3, "90.0", "lost"))
+
+
+class Quiet(Plain):
+    """What a lost rear counts as."""
+
+    def last_state(self, data):
+        return answers(self.plain.plain_open, self.plain.plain_sample, data)[-1][1][4] >> 5
+
+    def test_silences(self):
+        for seconds, state in ((3, 0), (4, 0), (5, 0), (6, 5), (7, 5)):
+            with self.subTest(seconds=seconds):
+                self.assertEqual(self.last_state(silent(seconds)), state)
+                self.assertFalse(self.difference(self.plain, silent(seconds)))
+
+    def test_none_yet(self):
+        self.assertEqual(self.last_state(UNHEARD), 5)
+        self.assertFalse(self.difference(self.plain, UNHEARD))
+
+    def test_a_slip_is_seen(self):
+        """5 seconds given up, 6 kept, a lost rear heard, none yet kept."""
+        for number, (part, old, new, data) in enumerate((
+                ("brakes.c", "last_heard <= KEPT_SECONDS", "last_heard < KEPT_SECONDS", silent(5)),
+                ("brakes.c", "last_heard <= KEPT_SECONDS", "last_heard <= KEPT_SECONDS + 1", silent(6)),
+                ("brakes.c", "if (sample->rear_present)\n        brakes->last_heard", "brakes->last_heard", silent(6)),
+                ("session.c", ".last_heard = NEVER", ".last_heard = 0", UNHEARD))):
+            with self.subTest(new=new):
+                slip = slipped(self, "quiet-%d" % number, old, new, "bench/plain.c", part)
+                self.assertTrue(self.difference(slip, data))
 
 
 def average(blocks, weight, sums, times):

@@ -68,13 +68,20 @@ static void fall_in_emergency(plain_brakes *brakes, int64_t elapsed)
         brakes->state = HOLDING_EMERGENCY;
 }
 
+static int64_t rear_counted(const plain_brakes *brakes, const sample_read *sample)
+{
+    if (sample->rear_present)
+        return sample->rear;
+    return sample->time - brakes->last_heard <= KEPT_SECONDS ? brakes->last_rear : sample->front;
+}
+
 static void update_brakes(plain_brakes *brakes, const plain_consist *train,
                           const sample_read *sample, bool begun)
 {
     int64_t front = sample->front;
     int64_t elapsed = begun ? sample->time - brakes->last_time : 0;
     int64_t rate = begun ? down(front - brakes->last_front, elapsed) : 0;
-    int64_t rear = sample->rear_present ? sample->rear : begun ? brakes->last_rear : front;
+    int64_t rear = rear_counted(brakes, sample);
     int64_t nominal = nominal_of(train, front, rear);
     bool application = rate < -100 || brakes->hold - front > 300;
     bool release = rate > 100;
@@ -115,4 +122,6 @@ static void update_brakes(plain_brakes *brakes, const plain_consist *train,
     brakes->last_front = front;
     brakes->last_rear = rear;
     brakes->last_time = sample->time;
+    if (sample->rear_present)
+        brakes->last_heard = sample->time;
 }

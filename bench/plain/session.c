@@ -9,7 +9,7 @@ int plain_open(plain_session *session, const uint8_t *consist, size_t count)
     if (refusal != 0)
         return refusal;
     *session = (plain_session){ .open = true, .train = train,
-                                .brakes = { .hold = train.set, .a = train.set } };
+                                .brakes = { .hold = train.set, .a = train.set, .last_heard = NEVER } };
     return 0;
 }
 

@@ -8,8 +8,6 @@
 
 enum { TOLD = 10 }; /* faults that are told one by one */
 
-tally tried;
-
 static lent session, consist, sample, profile, targets, out, first, second, third;
 
 void calls_make(void)
@@ -62,82 +60,44 @@ void try_version(void)
     hold(buongilach_version() == BUONGILACH_VERSION, "version", "is not the header's");
 }
 
-unsigned try_open(part session_before, part consist_given, uint8_t *opened)
+static void lend_opening(part session_before, part consist_given)
 {
-    uint8_t due[BUONGILACH_SESSION_BYTES];
-    unsigned wanted = expected_open(session_before.count, consist_given, due);
-    hold(expected_alike(consist_given), "the second program", "judges a consist otherwise");
     lend(&session, session_before);
     lend(&consist, consist_given);
+}
+
+/* What an opening with that choice answered, and wrote to what it was lent. */
+static void hold_opening(const char *call, unsigned answer, part consist_given, uint32_t everlasting, uint8_t *opened)
+{
+    uint8_t due[BUONGILACH_SESSION_BYTES];
+    unsigned wanted = expected_open(session.count, consist_given, everlasting, due);
+    hold(expected_alike(consist_given), "the second program", "judges a consist otherwise");
+    hold_answer(answer, wanted, call);
+    hold_read(&consist, call);
+    hold_written(&session, due, wanted == 0 ? sizeof due : 0, call);
+    if (answer != 0)
+        return;
+    hold(buongilach_is_open(session.bytes, session.count), "is_open", "denies an opened session");
+    if (opened != NULL)
+        memcpy(opened, session.bytes, session.count);
+}
+
+unsigned try_open(part session_before, part consist_given, uint8_t *opened)
+{
+    lend_opening(session_before, consist_given);
     unsigned answer = buongilach_open(session.bytes, session.count, consist.bytes, consist.count);
-    hold_answer(answer, wanted, "open");
-    hold_read(&consist, "open");
-    hold_written(&session, due, wanted == 0 ? sizeof due : 0, "open");
+    hold_opening("open", answer, consist_given, 0, opened);
     tried.openings[answer < 14 ? answer : 0]++;
-    if (answer == 0) {
-        hold(buongilach_is_open(session.bytes, session.count), "is_open", "denies an opened session");
-        if (opened != NULL)
-            memcpy(opened, session.bytes, session.count);
-    }
     return answer;
 }
 
-/* The sample's speed in hundredths of a mph, exactly. */
-static double hundredths_of_speed(void)
+unsigned try_open_with(part session_before, part consist_given, uint32_t everlasting, uint8_t *opened)
 {
-    uint32_t bits = (uint32_t)second_bits(sample.bytes, 64, 32);
-    float mph;
-    memcpy(&mph, &bits, sizeof mph);
-    return 100.0 * mph;
-}
-
-/* Whether the penalty was called, with a stop, for a target that allows the train's own speed: it must have sped up again. */
-static bool has_sped_up(const second_session *before, const second_session *after)
-{
-    if (before->cause != 0 || after->cause == 0 || second_bits(out.bytes, 40, 24) == BUONGILACH_NO_STOP)
-        return false;
-    const uint8_t *target = targets.bytes + (after->cause - 1) * BUONGILACH_TARGET_RECORD_BYTES;
-    return hundredths_of_speed() <= (double)second_bits(target, 24, 16);
-}
-
-/* Whether the same train with its weight spread evenly would be decided otherwise. */
-static bool is_otherwise(const expected_session *before)
-{
-    uint8_t even[BUONGILACH_SESSION_BYTES], next[BUONGILACH_SESSION_BYTES], decisions[BUONGILACH_BOTH_DECISIONS_BYTES];
-    expected_even(before, even);
-    unsigned answer = expected_sample(part_of(even, sizeof even), part_of(sample.bytes, sample.count),
-                                      part_of(profile.bytes, profile.count), part_of(targets.bytes, targets.count),
-                                      sizeof decisions, next, decisions);
-    return answer == 0 && memcmp(decisions, out.bytes, sizeof decisions) != 0;
-}
-
-static void count_blocks(const expected_session *before)
-{
-    if (before->consist_bytes == BUONGILACH_CONSIST_BYTES)
-        return;
-    tried.in_blocks++;
-    tried.otherwise += is_otherwise(before);
-}
-
-/* The library's answer and the session that follows, counted; `before` is the one that it was lent. */
-static void count_sample(unsigned answer, part before, uint8_t *next)
-{
-    tried.answers[answer < 14 ? answer : 0]++;
-    if (answer != 0)
-        return;
-    expected_session held, was;
-    hold(buongilach_is_open(session.bytes, session.count), "is_open", "denies the session after a sample");
-    if (expected_held(part_of(session.bytes, session.count), &held) && expected_held(before, &was)) {
-        tried.states[held.now.brakes.state]++;
-        tried.called[held.now.brakes.state] += was.now.emergency == 0 && held.now.emergency != 0;
-        tried.sped_up += has_sped_up(&was.now, &held.now);
-        if (next != NULL)
-            count_blocks(&was);
-    }
-    if (out.count >= BUONGILACH_DECISION_BYTES)
-        tried.unstopped += second_bits(out.bytes, 40, 24) == BUONGILACH_NO_STOP;
-    if (next != NULL)
-        memcpy(next, session.bytes, session.count);
+    lend_opening(session_before, consist_given);
+    unsigned answer = buongilach_open_with(session.bytes, session.count, consist.bytes, consist.count, everlasting);
+    hold_opening("open_with", answer, consist_given, everlasting, opened);
+    count_choice(answer, everlasting);
+    return answer;
 }
 
 unsigned try_sample(part session_before, part sample_given, part profile_given, part targets_given, part decisions_before,
@@ -161,7 +121,15 @@ unsigned try_sample(part session_before, part sample_given, part profile_given, 
     hold_read(&targets, "sample");
     hold_written(&session, due_session, wanted == 0 ? sizeof due_session : 0, "sample (session)");
     hold_written(&out, due_decisions, wanted == 0 ? sizeof due_decisions : 0, "sample (decisions)");
-    count_sample(answer, session_before, next);
+    tried.answers[answer < 14 ? answer : 0]++;
+    if (answer == 0)
+        hold(buongilach_is_open(session.bytes, session.count), "is_open", "denies the session after a sample");
+    if (answer == 0 && wanted == 0) {
+        const accepted call = {session_before, sample_given, profile_given, targets_given, due_session, due_decisions};
+        count_accepted(&call, next != NULL);
+    }
+    if (answer == 0 && next != NULL)
+        memcpy(next, session.bytes, session.count);
     return answer;
 }
 

@@ -4,28 +4,14 @@
 #ifndef CALLS_H
 #define CALLS_H
 
-#include "expected.h"
-
-/* What was tried, and what was wrong. */
-typedef struct {
-    unsigned long calls, faults;
-    unsigned long answers[14]; /* of sample calls */
-    unsigned long openings[14];
-    unsigned long states[6];   /* of accepted ones */
-    unsigned long unstopped;   /* accepted without a stop */
-    unsigned long called[6];   /* accepted ones that called emergency, by state */
-    unsigned long sped_up;     /* accepted ones that stop, and called the penalty for a target that allows their speed */
-    unsigned long in_blocks;   /* accepted ones of trains with blocks, whose session goes on */
-    unsigned long otherwise;   /* of these, decided otherwise than an even spread of the weight would be */
-} tally;
-
-extern tally tried;
+#include "counts.h"
 
 void calls_make(void);
 
 /* Each answers what the library answered. What is written to is given as the part that stands there before the call; `opened` and
  * `next` take the whole session buffer after an accepted one. */
 unsigned try_open(part session, part consist, uint8_t *opened);
+unsigned try_open_with(part session, part consist, uint32_t everlasting, uint8_t *opened);
 unsigned try_sample(part session, part sample, part profile, part targets, part decisions, uint8_t *next);
 void try_version(void);
 void try_judges(part consist, part sample, part profile, part targets);

@@ -17,14 +17,19 @@ typedef struct {
     size_t consist_bytes;
 } expected_session;
 
+/* Of a session's record: the bytes before its blocks, and where some of its fields begin, in bits. Heard is 0 for never, else one
+ * more than the time. */
+enum { EXPECTED_FRONT = 44, EXPECTED_SAMPLED = 24, EXPECTED_CHOICE = 25, EXPECTED_HEARD = 31, EXPECTED_HEARD_WIDTH = 25 };
+
 /* Whether an open session's record stands at the front of the bytes, and that session. */
 bool expected_held(part bytes, expected_session *session);
 
-/* The 301 bytes of a session, open or not: its record, and zeros. */
+/* The 304 bytes of a session, open or not: its record, and zeros. */
 void expected_bytes(const expected_session *session, uint8_t *bytes);
 
-/* The same session of a train whose weight is spread evenly. */
+/* The same session of a train whose weight is spread evenly; under the other choice of what a lost rear counts as. */
 void expected_even(const expected_session *session, uint8_t *bytes);
+void expected_other(const expected_session *session, uint8_t *bytes);
 
 /* How many blocks the second byte of a record's mark tells: none for a byte that is no count. */
 size_t expected_blocks(const uint8_t *session);
@@ -32,13 +37,14 @@ size_t expected_blocks(const uint8_t *session);
 /* How many bytes that record has. */
 size_t expected_record(const uint8_t *session);
 
-/* Puts the check words right: of the front, the record's first 41 bytes; of the blocks behind it; of both. */
+/* Puts the check words right: behind so many bytes; of the front, the record's first 44 bytes; of the blocks behind it; of both. */
+void expected_seal_bytes(uint8_t *bytes, size_t count);
 void expected_seal_front(uint8_t *session);
 void expected_seal_blocks(uint8_t *session);
 void expected_seal(uint8_t *session);
 
 /* Each answers the refusal or 0; the bytes that an accepted call writes are in the last arguments. */
-unsigned expected_open(size_t room, part consist, uint8_t *session);
+unsigned expected_open(size_t room, part consist, uint32_t everlasting, uint8_t *session);
 unsigned expected_sample(part session, part sample, part profile, part targets, size_t room, uint8_t *next, uint8_t *decisions);
 
 unsigned expected_judge_consist(part consist);

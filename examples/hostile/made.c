@@ -56,6 +56,13 @@ part made_part(size_t count)
     return part_of(noise, count);
 }
 
+part made_resized(uint8_t *room, const void *bytes, size_t count, size_t size)
+{
+    made_noise(room, size);
+    memcpy(room, bytes, size < count ? size : count);
+    return part_of(room, size);
+}
+
 uint32_t made_about(uint32_t least, uint32_t most)
 {
     switch (made_below(20)) {

@@ -18,6 +18,9 @@ void made_noise(uint8_t *bytes, size_t count);
 /* Noise to write over; it stands until the next. */
 part made_part(size_t count);
 
+/* Fewer or more bytes than these, noise past them, in that room. */
+part made_resized(uint8_t *room, const void *bytes, size_t count, size_t size);
+
 /* A number of the range, often its end, sometimes just past it. */
 uint32_t made_about(uint32_t least, uint32_t most);
 

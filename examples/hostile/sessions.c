@@ -4,7 +4,7 @@
 #include "sessions.h"
 
 #include "made.h"
-#include "trip.h"
+#include "rears.h"
 
 #include <string.h>
 
@@ -12,7 +12,7 @@ enum {
     PAIRS = 10000, /* of changed bytes, a session */
     MOVES = 2000,  /* of feet and tons, from block to block */
     NOISES = 20000,
-    FRONT = 41,    /* the bytes of a record before its blocks */
+    FRONT = EXPECTED_FRONT,
     CHECK = 4
 };
 
@@ -20,8 +20,7 @@ changes changed;
 
 /* ---- a session's record, changed */
 
-/* Counts whether the library takes these bytes for an open session's, with all else as the trip has it. */
-static void count_change(change *kind, const trip *t, const uint8_t *session)
+void count_change(change *kind, const trip *t, const uint8_t *session)
 {
     uint8_t decisions[BUONGILACH_BOTH_DECISIONS_BYTES] = {0};
     unsigned answer = try_sample(part_of(session, t->session_bytes), part_of(t->sample, sizeof t->sample),
@@ -140,6 +139,7 @@ static void try_changes(const trip *t)
     try_pairs(t);
     try_past(t);
     try_counts(t);
+    try_rears(t);
     if (expected_blocks(t->session) == 0) {
         try_sealed_front(t);
     } else {
@@ -223,13 +223,14 @@ static void random_session(const trip *t, uint8_t *bytes)
     else
         random_brakes(&held.now);
     expected_bytes(&held, bytes);
+    random_rear(bytes, t->time);
 }
 
 /* A session of the right length, mark and check words, mostly, and noise else. */
 static part noise_session(uint8_t *room)
 {
     made_noise(room, SESSION_ROOM);
-    room[0] = 0x42;
+    room[0] = made_once_in(16) ? 0x42 : 0x43;
     if (!made_once_in(8))
         room[1] = (uint8_t)(made_once_in(2) ? 0x55 : made_below(66));
     if (!made_once_in(4))

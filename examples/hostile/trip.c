@@ -9,11 +9,15 @@ enum { LONG_PROFILE = 600 };
 
 const block_range ANY_BLOCKS = {0, 64}, NO_BLOCKS = {0, 0}, FEW_BLOCKS = {1, 5}, MOST_BLOCKS = {64, 64};
 
-static void make_sample(trip *t)
+void trip_rear(trip *t, bool present)
 {
-    bool present = !made_once_in(5);
     uint32_t rear = made_once_in(3) ? made_below(16001) : t->front;
     made_sample(t->sample, t->time, t->head, made_reading(t->speed), made_reading(t->front), present, made_reading(rear));
+}
+
+static bool mostly_present(void)
+{
+    return !made_once_in(5);
 }
 
 static uint32_t made_speed(const trip *t)
@@ -29,11 +33,22 @@ static void make_blocks(trip *t)
     t->consist_bytes = made_blocks(t->consist, slow ? 0 : t->blocks.least, slow ? 2 : t->blocks.most);
 }
 
+/* By the default's own call, or by the one that takes the choice. */
+static void open_session(trip *t)
+{
+    uint8_t before[SESSION_ROOM];
+    part consist = part_of(t->consist, t->consist_bytes);
+    uint32_t everlasting = made_once_in(2) ? 0 : choices[made_below(CHOICES)];
+    made_noise(before, sizeof before);
+    if (everlasting == 0 && made_once_in(2))
+        try_open(part_of(before, t->session_bytes), consist, t->session);
+    else
+        try_open_with(part_of(before, t->session_bytes), consist, everlasting, t->session);
+}
+
 static void begin(trip *t)
 {
     static const size_t rooms[] = {BUONGILACH_SESSION_BYTES, BUONGILACH_SESSION_BYTES + 1, SESSION_ROOM};
-    uint8_t before[SESSION_ROOM];
-    made_noise(before, sizeof before);
     t->session_bytes = rooms[made_below(sizeof rooms / sizeof *rooms)];
     made_consist(t->consist, &t->length);
     t->head = t->length + made_below(100000);
@@ -47,8 +62,8 @@ static void begin(trip *t)
     t->speed = made_speed(t);
     t->targets_bytes = t->rolling ? made_restrictions(t->targets, t->head, t->speed) : made_targets(t->targets, t->head);
     t->front = (uint32_t)made_between(7000, 11000);
-    make_sample(t);
-    try_open(part_of(before, t->session_bytes), part_of(t->consist, t->consist_bytes), t->session);
+    trip_rear(t, mostly_present());
+    open_session(t);
 }
 
 static void begin_with(trip *t, bool steepest, bool rolling, uint32_t slowest, uint32_t fastest, block_range blocks)
@@ -84,7 +99,7 @@ static uint32_t next_front(uint32_t front, uint32_t elapsed)
     return next < 0 ? 0 : next > 16000 ? 16000 : (uint32_t)next;
 }
 
-void trip_go(trip *t)
+void trip_go_on(trip *t, uint32_t elapsed, bool present)
 {
     uint8_t decisions[BUONGILACH_BOTH_DECISIONS_BYTES] = {0};
     unsigned refusal =
@@ -96,19 +111,23 @@ void trip_go(trip *t)
         begin(t);
         return;
     }
-    uint32_t elapsed = (uint32_t)made_between(1, 5);
     t->time = (t->time + elapsed) & 0xFFFFFF;
     t->front = next_front(t->front, elapsed);
     t->speed = made_speed(t);
     t->head += made_below(150);
-    make_sample(t);
+    trip_rear(t, present);
+}
+
+void trip_go(trip *t)
+{
+    trip_go_on(t, (uint32_t)made_between(1, 5), mostly_present());
 }
 
 void trip_to_board(trip *t)
 {
     t->targets_bytes = made_board(t->targets, t->head);
     t->speed += t->speed == 0;
-    make_sample(t);
+    trip_rear(t, mostly_present());
 }
 
 void trip_retarget(trip *t)

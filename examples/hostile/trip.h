@@ -34,7 +34,8 @@ typedef struct {
     bool steepest, rolling;
 } trip;
 
-/* Opens a session, and makes its first sample. No speed is above `fastest`, in hundredths of a mph. */
+/* Opens a session, with any choice of what a lost rear counts as, and makes its first sample. No speed is above `fastest`, in
+ * hundredths of a mph. */
 void trip_begin(trip *t, uint32_t fastest, block_range blocks);
 
 /* The same for a train that runs away: the one that gains most speed, at 90 mph or more. */
@@ -45,6 +46,12 @@ void trip_over_hills(trip *t, block_range blocks);
 
 /* Offers the sample; accepted, the session and the sample are the next ones. */
 void trip_go(trip *t);
+
+/* The same; the next sample comes so many seconds later, and its rear is present or lost. */
+void trip_go_on(trip *t, uint32_t elapsed, bool present);
+
+/* The sample that is ready has a rear, or has lost it. */
+void trip_rear(trip *t, bool present);
 
 /* The next sample is at a board that calls penalty and emergency. */
 void trip_to_board(trip *t);
