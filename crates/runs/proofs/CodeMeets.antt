@@ -50,7 +50,8 @@ use Rattle.demands.specs.Program.{FitsWords}
 use Rattle.demands.specs.Program as program
 use Rattle.runs.specs.Runs.{Buffer, size, passed, with, lie, Answers}
 use Rattle.runs.specs.CodeMeets.{hold, Gives, front, after, OpenGives, OpenWithGives, SampleGives, CallGives, CodeMeets}
-use Rattle.runs.proofs.SessionValue.{number, choice-is, session-is, sessionIn, session-read, answer-told}
+use Rattle.runs.proofs.SessionFits.{choice-is, session-is}
+use Rattle.runs.proofs.SessionValue.{number, sessionIn, session-read, answer-told}
 use Rattle.runs.proofs.LentBytes.{W}
 use Rattle.runs.proofs.Runs.{runs}
 use Rattle.runs.proofs.Loaded.{gives-one, holds-of, nothing, apart, all-fit, fit-both}

@@ -2,6 +2,7 @@
 pub mod LentAnswers
 pub mod LentBytes
 pub mod Called
+pub mod SessionFits
 pub mod SessionValue
 pub mod Runs
 pub mod Loaded

@@ -63,7 +63,7 @@ use Rattle.buongilach.proofs.buongilach_sample.Met as buongilach-sample-met
 use Rattle.buongilach.proofs.buongilach_sample.Symbol as buongilach-sample-code
 use Rattle.buongilach.proofs.buongilach_sample.Reads as buongilach-sample-reads
 use Rattle.runs.specs.Runs.{Buffer, size, passed, with, Short, lie, Answers, Runs}
-use Rattle.runs.proofs.SessionValue.{session-fits}
+use Rattle.runs.proofs.SessionFits.{session-fits}
 use Rattle.runs.proofs.LentAnswers.{Defined, AnswersLent, answers-lent}
 use Rattle.runs.proofs.LentBytes.{W, lies, Passing, valued, shared, changed}
 use Rattle.runs.proofs.Called.{called}
