@@ -8,6 +8,7 @@ pub mod Demand1
 pub mod Carried
 pub mod Contracts
 pub mod History
+pub mod Quiet
 pub mod Machine
 pub mod Emergency
 pub mod Locations

@@ -8,6 +8,7 @@ pub mod Machine
 pub mod Program
 pub mod Library
 pub mod History
+pub mod Quiet
 pub mod Demand2
 pub mod RoundTrips
 pub mod Demand3
