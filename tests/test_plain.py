@@ -7,6 +7,7 @@ import shutil
 import unittest
 
 import built
+from feed_texts import WHOLE
 from here import ROOT, example, examples, feeds
 
 PLAIN = os.path.join(ROOT, "bench", "plain.c")
@@ -103,24 +104,9 @@ class Alike(Plain):
                 self.assertTrue(self.difference(slip, feeds.make(example(name))))
 
 
-# Service, and a release; the rear is told in some samples, and lost in the others.
-QUIET = """cars 10
-axles 40
-weight 1000
-length 600
-rated 200000
-application 30000
-recharge 50
-set 9000
-offset 500
-profile 0
-profile 40000
-"""
-
-
 def quiet(*samples):
-    """A train at rest; of each sample the time, the front and the rear."""
-    return feeds.make(QUIET + "".join("sample %d head 5000 speed 0.0 front %s rear %s\n" % sample for sample in samples))
+    """A train at rest; of each sample the time, the front and the rear, which may be lost."""
+    return feeds.make(WHOLE + "".join("sample %d head 5000 speed 0.0 front %s rear %s\n" % sample for sample in samples))
 
 
 def silent(seconds):
