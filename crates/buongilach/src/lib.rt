@@ -6,7 +6,7 @@ use brake::Choice;
 ghost use mathlib.Core.Path.{_≡_};
 ghost use Rattle.brake.specs.declared.Choice.the-variants.{FiveSeconds};
 ghost use Rattle.brake.specs.Rear.{choiceOf};
-ghost use Rattle.lent.specs.Lent.{openBytes, sampleBytes, isOpenBytes};
+ghost use Rattle.lent.specs.Lent.{openBytes, sampleBytes, isOpenBytes, applicationBytes};
 ghost use Rattle.buongilach.specs.Version.{version};
 
 // Opens a session anew with the consist and the default choice: writes its record to the start of `session`.
@@ -48,8 +48,16 @@ pub extern "C" fn buongilach_is_open(session: &[u8]) -> bool
     lent::is_open(session)
 }
 
+// The application time in force, in ms: typed, or learnt since; 0 where the bytes begin with no open session's record.
+#[no_mangle]
+pub extern "C" fn buongilach_application(session: &[u8]) -> u32
+    ensures { λ r. ⌜ r ≡ applicationBytes (now (session .entry)) ⌝ }
+{
+    lent::application(session)
+}
+
 // Three digits each for minor and patch.
-const VERSION: u32 = 7_000_000;
+const VERSION: u32 = 8_000_000;
 
 // The version of this library.
 #[no_mangle]

@@ -32,6 +32,7 @@ use Rattle.consist.proofs.Answers as consist-answers
 use Rattle.consist.proofs.Sound as consist-sound
 use Rattle.brake.proofs.StateNumbers.{number-most}
 use Rattle.brake.proofs.Rear.{choice-most}
+use Rattle.learn.proofs.Stages.{stage-number-most}
 use Rattle.session.specs.declared.Session.{Session}
 use Rattle.session.specs.declared.Answer.{Answer}
 use Rattle.session.specs.Session.{isOpen}
@@ -50,17 +51,20 @@ pub record IsFront (s : List ℕ) : Type 0 where
   pub seal : isSealed s ≡ true
   pub marked : getD (fieldsAt s) 0 0 ≡ markFor (countIn (getD (fieldsAt s) 0 0))
   pub state : getD (fieldsAt s) 5 0 ≤ 5
+  pub stage : getD (fieldsAt s) 15 0 ≤ 4
 
 is-front : (s : List ℕ) → noFront s ≡ false → IsFront s
 unfolding noFront
 is-front s h =
     let m = getD (fieldsAt s) 0 0 in
-    let x = neither (not (isSealed s) || wrongMark m) (ltb 5 (getD (fieldsAt s) 5 0)) h in
+    let w = neither (not (isSealed s) || wrongMark m || ltb 5 (getD (fieldsAt s) 5 0)) (ltb 4 (getD (fieldsAt s) 15 0)) h in
+    let x = neither (not (isSealed s) || wrongMark m) (ltb 5 (getD (fieldsAt s) 5 0)) (w .0) in
     let y = neither (not (isSealed s)) (wrongMark m) (x .0) in
     record {
       seal = not-false (isSealed s) (y .0);
       marked = mark-back m (y .1);
       state = ltb-false 5 (getD (fieldsAt s) 5 0) (x .1);
+      stage = ltb-false 4 (getD (fieldsAt s) 15 0) (w .1);
     }
 
 pub record IsRecord (s : List ℕ) : Type 0 where
@@ -236,4 +240,6 @@ module _ (x : Session) (h : isOpen x ≡ true) where
   fits =
       let o = opened x h in
       let k = o .brake in
-      omega (arith, mark-fits (x .consist .blocks .count) few, number-most (x .brake .state), choice-most (x .brake .choice), bit-fits (x .brake .sampled), o .cause, o .emergency, k .a, k .b, k .equalization, k .fall, k .hold, k .front, k .rear, k .time, k .heard, o .consist .ranged)
+      let l = o .learner in
+      let s = l .sums in
+      omega (arith, stage-number-most (x .learner .stage), l .since, l .init, l .last, l .pressure, s .count, s .times, s .squares, s .pressures, s .products, mark-fits (x .consist .blocks .count) few, number-most (x .brake .state), choice-most (x .brake .choice), bit-fits (x .brake .sampled), o .cause, o .emergency, k .a, k .b, k .equalization, k .fall, k .hold, k .front, k .rear, k .time, k .heard, o .consist .ranged)

@@ -1,5 +1,5 @@
 -- "Held: state, set, hold (pipe pressure), A (average auxiliary reservoir), B (average cylinder), equalization, fall per second, last front, last rear, last time":
--- the record of an open session, its reader and its writer; of R-7 it holds the choice and when the rear was last present. It has a front of 44 bytes; where the consist has blocks, these follow it. Definitions only.
+-- the record of an open session, its reader and its writer; of R-7 it holds the choice and when the rear was last present, of R-3 what is kept of learning; the consist has the time in force. It has a front of 66 bytes; where the consist has blocks, these follow it. Definitions only.
 use Prim.Native.Nat.{ℕ, zero, suc, _+_, _-_, _*_}
 use mathlib.Core.List.{List, [], _∷_, _++_}
 use mathlib.Core.Bool.{Bool, true, false, not, _&&_, _||_, cond}
@@ -24,25 +24,27 @@ use Rattle.consist.specs.Consist as consist
 use Rattle.brake.specs.declared.Brake.{Brake}
 use Rattle.brake.specs.State.{stateNumber, stateOf}
 use Rattle.brake.specs.Rear.{choiceNumber, choiceOf, heardNumber, heardOf}
+use Rattle.learn.specs.declared.Learner.{Learner}
+use Rattle.learn.specs.Stage.{stageOf, learnerTold}
 use Rattle.session.specs.declared.Session.{Session}
 use Rattle.session.specs.Session.{Told, answerTold, isOpen, noneOpen}
 
 -- ---- the layout
 
--- the front, 44 bytes
+-- the front, 66 bytes
 abbrev pub size : ℕ
-size = 44
+size = 66
 
--- of which 24 are the record's own fields; then stand the consist without its blocks, 16, and the check word of these 40
+-- of which 46 are the record's own fields; then stand the consist without its blocks, 16, and the check word of these 62
 abbrev pub own : ℕ
-own = 24
+own = 46
 
--- the mark: the letter C, and behind it the letter U where there are no blocks, else their count
+-- the mark: the letter F, and behind it the letter U where there are no blocks, else their count
 abbrev pub mark : ℕ
-mark = 0x4355
+mark = 0x4655
 
 abbrev pub letter : ℕ
-letter = 0x4300
+letter = 0x4600
 
 abbrev pub markFor : ℕ → ℕ
 markFor zero = mark
@@ -70,18 +72,18 @@ sizeFor n = size + behindFor n
 abbrev pub sizeOf : Session → ℕ
 sizeOf x = sizeFor (x .consist .blocks .count)
 
--- of one with the most, 304; a session buffer has as many, or more
+-- of one with the most, 326; a session buffer has as many, or more
 abbrev pub most : ℕ
 most = sizeFor blocks.most
 
--- mark, the penalty's cause, the emergency's, whether a sample was yet accepted, the choice, state, when the rear was last present, hold, A, B, equalization, fall, last front, last rear, last time
+-- mark, the penalty's cause, the emergency's, whether a sample was yet accepted, the choice, state, when the rear was last present, hold, A, B, equalization, fall, last front, last rear, last time, and the learner's
 abbrev pub fieldsOf : Session → List ℕ
 fieldsOf x =
     let k = x .brake in
-    markFor (x .consist .blocks .count) ∷ x .cause ∷ x .emergency ∷ bit (k .sampled) ∷ choiceNumber (k .choice) ∷ stateNumber (k .state) ∷ heardNumber (k .heard) ∷ k .hold ∷ k .a ∷ k .b ∷ k .equalization ∷ k .fall ∷ k .«last_front» ∷ k .«last_rear» ∷ k .«last_time» ∷ []
+    markFor (x .consist .blocks .count) ∷ x .cause ∷ x .emergency ∷ bit (k .sampled) ∷ choiceNumber (k .choice) ∷ stateNumber (k .state) ∷ heardNumber (k .heard) ∷ k .hold ∷ k .a ∷ k .b ∷ k .equalization ∷ k .fall ∷ k .«last_front» ∷ k .«last_rear» ∷ k .«last_time» ∷ learnerTold (x .learner)
 
 abbrev pub widths : List ℕ
-widths = 16 ∷ 4 ∷ 4 ∷ 1 ∷ 1 ∷ 5 ∷ 25 ∷ 16 ∷ 16 ∷ 16 ∷ 16 ∷ 16 ∷ 16 ∷ 16 ∷ 24 ∷ []
+widths = 16 ∷ 4 ∷ 4 ∷ 1 ∷ 1 ∷ 5 ∷ 25 ∷ 16 ∷ 16 ∷ 16 ∷ 16 ∷ 16 ∷ 16 ∷ 16 ∷ 24 ∷ 4 ∷ 24 ∷ 12 ∷ 12 ∷ 16 ∷ 9 ∷ 18 ∷ 27 ∷ 22 ∷ 32 ∷ []
 
 -- the air brakes of these fields
 abbrev pub brakeOf : List ℕ → Brake
@@ -100,12 +102,24 @@ brakeOf fs = record {
   heard = heardOf (getD fs 6 0);
 }
 
+-- what is kept of learning
+abbrev pub learnerOf : List ℕ → Learner
+learnerOf fs = record {
+  stage = stageOf (getD fs 15 0);
+  since = getD fs 16 0;
+  init = getD fs 17 0;
+  last = getD fs 18 0;
+  pressure = getD fs 19 0;
+  sums = record { count = getD fs 20 0; times = getD fs 21 0; squares = getD fs 22 0; pressures = getD fs 23 0; products = getD fs 24 0 };
+}
+
 -- the open session of these fields and a consist
 abbrev pub ofFields : List ℕ → Consist → Session
 ofFields fs c = record {
   opened = true;
   consist = c;
   brake = brakeOf fs;
+  learner = learnerOf fs;
   cause = getD fs 1 0;
   emergency = getD fs 2 0;
 }
@@ -152,9 +166,9 @@ recordAt s = cond (ltb (length s) most) [] (take (sizeFor (countAt s)) s)
 unfoldable pub sessionIn : List ℕ → Session
 sessionIn s = ofFields (fieldsAt (frontAt s)) (consist.withBlocks (consist.consistIn (consistAt s)) (blocks.layOf (blocksAt s)))
 
--- a front that is not sealed, with a wrong mark, or with a state above 5
+-- a front that is not sealed, with a wrong mark, a state above 5, or a stage of learning above 4
 unfoldable pub noFront : List ℕ → Bool
-noFront s = not (isSealed s) || wrongMark (getD (fieldsAt s) 0 0) || ltb 5 (getD (fieldsAt s) 5 0)
+noFront s = not (isSealed s) || wrongMark (getD (fieldsAt s) 0 0) || ltb 5 (getD (fieldsAt s) 5 0) || ltb 4 (getD (fieldsAt s) 15 0)
 
 -- so many blocks that are not sealed
 abbrev pub noBehind : ℕ → List ℕ → Bool

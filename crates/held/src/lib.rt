@@ -1,32 +1,34 @@
 // The record of an open session, for a customer who keeps the session in bytes from call to call and across a restart: its constants and its reader.
-// Crate `stored` writes it. It has a front of 44 bytes; where the consist has blocks, these follow it, with a check word of their own.
+// Crate `stored` writes it. It has a front of 66 bytes; where the consist has blocks, these follow it, with a check word of their own.
 use blocks::Blocks;
 use brake::Brake;
 use consist::Consist;
+use learn::Learner;
 use refusal::Refusal;
 use refusal::Step;
 use refusal::Verdict;
 use session::Answer;
 use session::Session;
+use trend::Sums;
 ghost use mathlib.Core.Path.{_≡_};
 ghost use Prim.Native.Nat.{_≤_};
 ghost use lib.ListN.{length, getD};
 ghost use Rattle.refusal.specs.declared.Refusal.the-variants.{NoSession};
 ghost use Rattle.session.specs.Session.{answerTold};
-ghost use Rattle.held.specs.Held.{hasBlocks, countIn, sizeFor, most, brakeOf, ofFields, fieldsAt, noFront, noRecord, recordAt, refusedWith, readTold, readFront, readSession};
+ghost use Rattle.held.specs.Held.{hasBlocks, countIn, sizeFor, most, brakeOf, learnerOf, ofFields, fieldsAt, noFront, noRecord, recordAt, refusedWith, readTold, readFront, readSession};
 
 // Bytes of the front.
-pub const SIZE: usize = 44;
+pub const SIZE: usize = 66;
 
 // Bytes of its own fields; the consist without its blocks stands behind them, and the check word of both at the end.
-pub const OWN: usize = 24;
+pub const OWN: usize = 46;
 
 pub const BODY: usize = OWN + Consist::SIZE;
 
 // The mark of a record without blocks; with blocks it is their count and what is below it.
-pub const MARK: u64 = 0x4355;
+pub const MARK: u64 = 0x4655;
 
-pub const LETTER: u64 = 0x4300;
+pub const LETTER: u64 = 0x4600;
 
 // Bytes of the longest record; a session buffer has as many, or more.
 pub const MOST: usize = SIZE + Blocks::SIZE * Blocks::MOST + seal::SIZE;
@@ -59,14 +61,14 @@ fn size_at(front: &[u8]) -> usize
     SIZE + Blocks::SIZE * (mark - LETTER) as usize + seal::SIZE
 }
 
-// Not sealed, a wrong mark, or a state above 5.
+// Not sealed, a wrong mark, a state above 5, or a stage of learning above 4.
 fn no_front(s: &[u8]) -> bool
     ensures { λ r. ⌜ r ≡ noFront (now (s .entry)) ⌝ }
 {
     let is_sealed = seal::is_sealed(s);
     let mark = bits::field(s, 0, 16);
     let marked = (mark == MARK) | has_blocks(mark);
-    !is_sealed | !marked | (bits::field(s, 26, 5) > 5)
+    !is_sealed | !marked | (bits::field(s, 26, 5) > 5) | (bits::field(s, 192, 4) > 4)
 }
 
 // Not as many bytes as there are with its blocks, no front, or blocks that are not sealed.
@@ -111,6 +113,35 @@ fn brake_of(s: &[u8]) -> Brake
     }
 }
 
+// The sums of a record's own fields.
+fn sums_of(s: &[u8]) -> Sums
+    ensures { λ r. ⌜ r ≡ learnerOf (fieldsAt (now (s .entry))) .sums ⌝ }
+{
+    Sums {
+        count: bits::field(s, 260, 9) as u16,
+        times: bits::field(s, 269, 18) as u32,
+        squares: bits::field(s, 287, 27) as u32,
+        pressures: bits::field(s, 314, 22) as u32,
+        products: bits::field(s, 336, 32) as u32,
+    }
+}
+
+// The learner of a record's own fields.
+fn learner_of(s: &[u8]) -> Learner
+    ensures { λ r. ⌜ r ≡ learnerOf (fieldsAt (now (s .entry))) ⌝ }
+{
+    let stage = learn::stage_of(bits::field(s, 192, 4));
+    let sums = sums_of(s);
+    Learner {
+        stage,
+        since: bits::field(s, 196, 24) as u32,
+        init: bits::field(s, 220, 12) as u16,
+        last: bits::field(s, 232, 12) as u16,
+        pressure: bits::field(s, 244, 16) as u16,
+        sums,
+    }
+}
+
 // The open session of a record's own fields and a consist, whatever the mark.
 fn of_bytes(s: &[u8], c: Consist) -> Session
     ensures { λ r. ⌜ r ≡ ofFields (fieldsAt (now (s .entry))) c ⌝ }
@@ -118,10 +149,12 @@ fn of_bytes(s: &[u8], c: Consist) -> Session
     let cause = bits::field(s, 16, 4) as u8;
     let emergency = bits::field(s, 20, 4) as u8;
     let brake = brake_of(s);
+    let learner = learner_of(s);
     Session {
         opened: true,
         consist: c,
         brake,
+        learner,
         cause,
         emergency,
     }

@@ -1,6 +1,6 @@
 -- The calls with the session in lent bytes, step by step: what opening writes, and what a sample call tells and leaves. Assumes nothing.
 use mathlib.Core.Path.{_≡_, refl, sym, ap, _∙_}
-use mathlib.Core.Bool.{Bool, true, false, _&&_, _||_, cond}
+use mathlib.Core.Bool.{Bool, true, false, not, _&&_, _||_, cond}
 use mathlib.Core.List.{List, [], _∷_, _++_, append-assoc}
 use Prim.Native.Nat.{ℕ, zero, suc, _+_, _-_, _≤_, _<_}
 use native.Mathlib.Decide.{decLt}
@@ -29,7 +29,7 @@ use Rattle.session.specs.Open.{openedWith, openedBy, openOf}
 use Rattle.sampling.specs.Sample.{sampleCall}
 use Rattle.sampling.specs.Laws.{OpensOpen, StaysOpen}
 use Rattle.held.specs.Held.{sizeOf, most, recordAt, sessionIn, bytesOf, noSession, answer, readSession, writeSession}
-use Rattle.lent.specs.Lent.{zeros, bufferOf, openRules, openBytes, withRoom, Sampled, callBytes, sampledBy, sampleBytes}
+use Rattle.lent.specs.Lent.{zeros, bufferOf, openRules, openBytes, withRoom, Sampled, callBytes, sampledBy, sampleBytes, isOpenBytes, applicationBytes}
 use Rattle.sampling.proofs.Laws.{opens-open, stays-open}
 use Rattle.session.proofs.Told.{call-one}
 use Rattle.held.proofs.Sizes.{no-buffer}
@@ -171,6 +171,31 @@ module _ (b : List ℕ) where
       by : Dec (length b < most) → most ≤ length b
       by (yes l) = absurd (omega (arith, read-inv (recordAt b) e .0 .long, ap length (no-buffer b l)))
       by (no l) = omega arith
+
+-- ---- the time in force
+
+apart : (r : Refusal) → Accepted ≡ Refused r → ⊥
+apart r e = let z : _≡_ {A = ℕ} 0 1 = cc in omega arith
+
+module _ (b : List ℕ) where
+  abbrev timeBy : Bool → ℕ
+  timeBy none = cond (not none) (sessionIn (recordAt b) .consist .application) 0
+
+  pub time-of-none : (r : Refusal) → readSession (recordAt b) .0 ≡ Refused r → 0 ≡ applicationBytes b
+  unfolding applicationBytes isOpenBytes
+  time-of-none r e = by (noSession (recordAt b)) refl
+    where
+      by : (n : Bool) → noSession (recordAt b) ≡ n → 0 ≡ timeBy (noSession (recordAt b))
+      by true h = sym (ap timeBy h)
+      by false h = absurd (apart r (sym (ap (λ (a : Verdict × Session). a .0) (one-held (recordAt b) h)) ∙ e))
+
+  pub time-of-one : (y : Session) → readSession (recordAt b) ≡ (Accepted, y) → y .consist .application ≡ applicationBytes b
+  unfolding applicationBytes isOpenBytes
+  time-of-one y e = by (noSession (recordAt b)) refl
+    where
+      by : (n : Bool) → noSession (recordAt b) ≡ n → y .consist .application ≡ timeBy (noSession (recordAt b))
+      by true h = absurd (apart NoSession (sym (ap (λ (a : Verdict × Session). a .0) e) ∙ ap (λ (a : Verdict × Session). a .0) (read-is (recordAt b) true h)))
+      by false h = ap (λ (a : Verdict × Session). a .1 .consist .application) (sym e ∙ one-held (recordAt b) h) ∙ sym (ap timeBy h)
 
 -- ---- a sample call
 

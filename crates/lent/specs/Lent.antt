@@ -1,5 +1,5 @@
--- A session in lent bytes, its buffer, which begins with its record, as crate `held` defines it: opening, a sample call, and whether an open session's
--- record stands there. Definitions only.
+-- A session in lent bytes, its buffer, which begins with its record, as crate `held` defines it: opening, a sample call, whether an open session's
+-- record stands there, and its application time. Definitions only.
 use mathlib.Core.Bool.{Bool, not, _&&_, _||_, cond}
 use mathlib.Core.List.{List, [], _∷_, _++_}
 use Prim.Native.Nat.{ℕ}
@@ -19,7 +19,7 @@ use Rattle.session.specs.Open.{openedWith}
 use Rattle.sampling.specs.Sample.{linesOf, sampleCall}
 use Rattle.held.specs.Held.{most, recordAt, sessionIn, bytesOf, noSession, readSession}
 
--- a session's buffer: its record, and zeros behind it, 304 bytes in all
+-- a session's buffer: its record, and zeros behind it, 326 bytes in all
 abbrev pub zeros : ℕ → List ℕ
 zeros n = replicate n 0
 
@@ -65,3 +65,7 @@ sampleBytes session sample profile targets decision =
 -- whether the buffer begins with an open session's record
 unfoldable pub isOpenBytes : List ℕ → Bool
 isOpenBytes session = not (noSession (recordAt session))
+
+-- R-3: the application time in force, in ms, which the consist carries; 0 where no session is open
+unfoldable pub applicationBytes : List ℕ → ℕ
+applicationBytes session = cond (isOpenBytes session) (sessionIn (recordAt session) .consist .application) 0

@@ -1,4 +1,4 @@
-// A session in lent bytes, its buffer: its record, which crates `held` and `stored` read and write, stands at their start, and zeros behind it, 304 bytes
+// A session in lent bytes, its buffer: its record, which crates `held` and `stored` read and write, stands at their start, and zeros behind it, 326 bytes
 // in all. No call reads a byte past the record or writes one past these. An answer is the refusal's number, 0 for none.
 use brake::Choice;
 use held::MOST;
@@ -12,7 +12,7 @@ ghost use Prim.Native.Nat.{_≤_};
 ghost use lib.ListN.{length, drop};
 ghost use Rattle.session.specs.Session.{isOpen};
 ghost use Rattle.held.specs.Held.{most};
-ghost use Rattle.lent.specs.Lent.{zeros, bufferOf, withRoom, openBytes, sampleBytes, isOpenBytes};
+ghost use Rattle.lent.specs.Lent.{zeros, bufferOf, withRoom, openBytes, sampleBytes, isOpenBytes, applicationBytes};
 
 // Sets every byte to zero.
 fn clear(s: &mut [u8])
@@ -23,7 +23,7 @@ fn clear(s: &mut [u8])
     }
 }
 
-// Puts the session's buffer over the first 304 bytes.
+// Puts the session's buffer over the first 326 bytes.
 fn put(x: Session, session: &mut [u8])
     requires opened { ⌜ isOpen x ≡ true ⌝ }
     requires room { ⌜ most ≤ length (now session) ⌝ }
@@ -94,4 +94,17 @@ pub fn is_open(session: &[u8]) -> bool
     let found = held::read_start(session);
     let verdict = found.verdict;
     refusal::verdict_number(verdict) == 0
+}
+
+// The application time in force, in ms; 0 where the buffer begins with no open session's record.
+pub fn application(session: &[u8]) -> u32
+    ensures { λ r. ⌜ r ≡ applicationBytes (now (session .entry)) ⌝ }
+{
+    let found = held::read_start(session);
+    let verdict = found.verdict;
+    let Verdict::Accepted = verdict else {
+        return 0;
+    };
+    let x = found.session;
+    x.consist.application
 }

@@ -18,6 +18,9 @@ use Rattle.consist.specs.Consist.{consistIn, none, readConsist}
 use Rattle.consist.proofs.Sound as consist-sound
 use Rattle.targets.specs.Targets as targets
 use Rattle.sample.specs.declared.Sample.{Sample}
+use Rattle.sample.specs.declared.RearPressure.{RearPressure}
+use Rattle.sample.specs.declared.RearPressure.the-variants.{Present, Lost}
+use Rattle.sample.specs.Bounds.{RearBounded}
 use Rattle.update.specs.Rules.{updateOf}
 use Rattle.judge.specs.Judge.{standing}
 use Rattle.prediction.specs.Prediction.{behind}
@@ -25,14 +28,20 @@ use Rattle.brake.specs.declared.Choice.{Choice}
 use Rattle.brake.specs.Sound as brake
 use Rattle.brake.proofs.Sound.{at-opening-sound}
 use Rattle.brake.proofs.Tested as brake-tested
+use Rattle.learn.specs.Sound as learner
+use Rattle.learn.specs.Suffices.{RearWithin, StaysSound}
+use Rattle.learn.proofs.Tested as learner-tested
+use Rattle.learn.proofs.Sound.{stays-sound}
 use Rattle.admission.proofs.Admitted.{none-holds}
 use Rattle.session.specs.declared.Session.{Session}
 use Rattle.session.specs.Session.{isFresh, isBehind, isOpen}
 use Rattle.session.specs.Open.{openedWith, openOf}
-use Rattle.sampling.specs.Sample.{sampleIn, brakeAfter, causeAfter, emergencyAfter, sessionAfter, rules, sampleCall}
+use Rattle.sampling.specs.Learning.{shownOf}
+use Rattle.sampling.specs.Sample.{sampleIn, brakeAfter, lessonAfter, causeAfter, emergencyAfter, sessionAfter, rules, sampleCall}
 use Rattle.sampling.specs.Steps.{rulesBefore}
 use Rattle.sampling.specs.Laws.{OpenUnchanged, SampleUnchanged, OpensOpen, StaysOpen, FreshOpening, afterSamples, causeHeld, CauseStands}
 use Rattle.session.proofs.Opened.{opened}
+use Rattle.sampling.proofs.InForce.{in-force-sound, brake-in-force}
 use Rattle.sampling.proofs.Accepted.{predictable}
 use Rattle.sampling.proofs.Admitted.{is-opened, ready, cause-within, emergency-within}
 
@@ -49,18 +58,18 @@ sample-unchanged x s p t out r h = ap (λ (v : Verdict). kept v (sessionAfter x 
 -- ---- open
 
 module _ (x : Session) where
-  is-open : x .opened ≡ true → consist.isSound (x .consist) ≡ true → brake.Sound (x .consist) (x .brake) → x .cause ≤ targets.most
+  is-open : x .opened ≡ true → consist.isSound (x .consist) ≡ true → brake.Sound (x .consist) (x .brake) → learner.isSound (x .learner) ≡ true → x .cause ≤ targets.most
       → x .emergency ≤ targets.most → isBehind x ≡ true → (x .brake .sampled || isFresh x) ≡ true → isOpen x ≡ true
   unfolding isOpen
-  is-open o c b k e behind f =
-      rw (o, c, brake-tested.sound-is (x .consist) (x .brake) .1 b, le-leb (x .cause) targets.most k, le-leb (x .emergency) targets.most e, behind, f)
+  is-open o c b l k e behind f =
+      rw (o, c, brake-tested.sound-is (x .consist) (x .brake) .1 b, l, le-leb (x .cause) targets.most k, le-leb (x .emergency) targets.most e, behind, f)
 
 -- an opening with a consist that is not refused
 opened-open : (c : Consist) (choice : Choice) → consist.outOfRange c ≡ false → consist.tooLight c ≡ false → consist.soundBlocks c ≡ true
     → isOpen (openedWith c choice) ≡ true
 opened-open c choice r w b =
-    is-open (openedWith c choice) refl (consist-sound.sound-is c r w b) (at-opening-sound c choice (consist-sound.sound c r w b)) (omega arith) (omega arith) refl
-    (rw (brake-tested.at-opening-passes c choice))
+    is-open (openedWith c choice) refl (consist-sound.sound-is c r w b) (at-opening-sound c choice (consist-sound.sound c r w b)) learner-tested.at-opening-sound
+    (omega arith) (omega arith) refl (rw (brake-tested.at-opening-passes c choice, learner-tested.at-opening-is))
 
 pub opens-open : OpensOpen
 unfolding OpensOpen openOf readConsist
@@ -95,15 +104,22 @@ stays-behind stood cause called other h = by (eqb (standing cause called) 0) ref
     by true e = rw (none-stood stood cause called h (eqb-true _ _ e)) refl
     by false e = or-true (eqb (standing stood other) 0)
 
+rear-within : (r : RearPressure) → RearBounded r → RearWithin r
+rear-within (Present p) h = h
+rear-within Lost h = tt
+
 pub stays-open : StaysOpen
-unfolding StaysOpen sampleCall causeAfter emergencyAfter
+unfolding StaysOpen sampleCall causeAfter emergencyAfter StaysSound
 stays-open x s p t out h =
     let m = sampleIn s in
     let b = append-accepted (rulesBefore x s p t) _ h in
     let o = is-opened x s p t b in
     let r = predictable x m p (ready x s p t b) in
+    let shown = shownOf (x .consist) (brakeAfter x m) m in
     ap (λ (v : Verdict). isOpen (kept v (sessionAfter x m p t) x)) h
-    ∙ is-open (sessionAfter x m p t) refl (o .tested) (r .brake) (cause-within x m p t (o .cause)) (emergency-within x m p t (o .emergency))
+    ∙ is-open (sessionAfter x m p t) refl (in-force-sound (x .consist) (x .learner) shown (o .tested)) (brake-in-force (x .consist) (brakeAfter x m) (lessonAfter x m .learnt) (r .brake))
+    (learner-tested.is-sound-of (lessonAfter x m .learner) (stays-sound (x .learner) shown (o .learner) (omega (arith, r .sample .time)) (rear-within (m .rear) (r .sample .rear))))
+    (cause-within x m p t (o .cause)) (emergency-within x m p t (o .emergency))
     (stays-behind (x .emergency) (x .cause) _ _ (o .behind)) (ap (λ (a : Bool). a || isFresh (sessionAfter x m p t)) (sampled x m))
 
 pub fresh-opening : FreshOpening
@@ -111,7 +127,7 @@ unfolding FreshOpening
 fresh-opening x h e =
     let o = opened x h in
     let f = o .fresh e in
-    rw (o .opened, f .0, f .1, f .2)
+    rw (o .opened, f .0, f .1, f .2, f .3)
 
 -- ---- the penalty, and emergency
 

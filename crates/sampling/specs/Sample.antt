@@ -14,6 +14,8 @@ use Rattle.decision.specs.Decision as decision
 use Rattle.brake.specs.declared.Brake.{Brake}
 use Rattle.brake.specs.State.{stateNumber}
 use Rattle.update.specs.Rules.{updateOf}
+use Rattle.learn.specs.declared.Lesson.{Lesson}
+use Rattle.learn.specs.Kept.{taughtOf}
 use Rattle.judge.specs.Judge.{standing}
 use Rattle.judge.specs.Approach.{Approach}
 use Rattle.judge.specs.Emergency.{Emergency}
@@ -23,6 +25,7 @@ use Rattle.prediction.specs.Prediction.{approachOf, emergencyOf, outcomeOf}
 use Rattle.session.specs.declared.Session.{Session}
 use Rattle.session.specs.declared.Answer.{Answer}
 use Rattle.session.specs.Session.{isOpen, answer}
+use Rattle.sampling.specs.Learning.{shownOf, inForce}
 
 -- the sample that bytes stand for
 abbrev pub sampleIn : List ℕ → Sample
@@ -57,6 +60,10 @@ causeAfter x m p t = standing (x .cause) (prediction x m p t .called)
 unfoldable pub emergencyAfter : Session → Sample → List ℕ → List ℕ → ℕ
 emergencyAfter x m p t = standing (x .emergency) (prediction x m p t .«emergency_called»)
 
+-- R-3: what the sample teaches, "after the update"
+abbrev pub lessonAfter : Session → Sample → Lesson
+lessonAfter x m = taughtOf (x .learner) (shownOf (x .consist) (brakeAfter x m) m)
+
 -- ---- the answer
 
 -- a record: "the penalty bit is 1 exactly when the cause is not 0"
@@ -84,8 +91,9 @@ decisionsOf x m p t = decision.bothBytes (decisionOf x m p t) (emergencyDecision
 abbrev pub sessionAfter : Session → Sample → List ℕ → List ℕ → Session
 sessionAfter x m p t = record {
   opened = true;
-  consist = x .consist;
+  consist = inForce (x .consist) (lessonAfter x m .learnt);
   brake = brakeAfter x m;
+  learner = lessonAfter x m .learner;
   cause = causeAfter x m p t;
   emergency = emergencyAfter x m p t;
 }

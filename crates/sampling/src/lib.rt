@@ -1,13 +1,20 @@
 // A sample call: an open session is fed one sample a second.
+use brake::Brake;
+use brake::State;
+use consist::Consist;
 use decision::Decision;
+use learn::Shown;
 use refusal::Refusal;
 use refusal::Verdict;
 use sample::Sample;
 use session::Answer;
 use session::Session;
+use trend::Learnt;
 ghost use mathlib.Core.Path.{_≡_};
 ghost use Rattle.prediction.specs.Steps.{Ready};
 ghost use Rattle.session.specs.Session.{callTold};
+ghost use Rattle.learn.specs.Sound.{Sound};
+ghost use Rattle.sampling.specs.Learning.{isService, shownOf, inForce};
 ghost use Rattle.sampling.specs.Sample.{decidedWith, sampleCall};
 ghost use Rattle.sampling.specs.Steps.{afterOf};
 
@@ -32,9 +39,61 @@ fn decided(emergency: bool, time: u32, state: u8, cause: u8, stop: u32) -> Decis
     }
 }
 
-// The update, the prediction, the standing penalty and emergency, the two decisions.
+fn is_service(state: State) -> bool
+    ensures { λ r. ⌜ r ≡ isService state ⌝ }
+{
+    match state {
+        State::Charged => false,
+        State::ApplyingService => true,
+        State::HoldingService => true,
+        State::ApplyingEmergency => false,
+        State::HoldingEmergency => false,
+        State::Charging => false,
+    }
+}
+
+// What a sample shows the learner, after its update.
+fn shown(c: Consist, k: Brake, m: Sample) -> Shown
+    ensures { λ r. ⌜ r ≡ shownOf c k m ⌝ }
+{
+    let state = k.state;
+    let rear = m.rear;
+    Shown {
+        service: is_service(state),
+        set: c.set,
+        equalization: k.equalization,
+        time: m.time,
+        front: m.front,
+        rear,
+    }
+}
+
+// The consist with the application time that is in force from the next sample on.
+fn in_force(c: Consist, learnt: Learnt) -> Consist
+    ensures { λ r. ⌜ r ≡ inForce c learnt ⌝ }
+{
+    let blocks = c.blocks;
+    match learnt {
+        Learnt::Nothing => c,
+        Learnt::Time(ms) => Consist {
+            cars: c.cars,
+            axles: c.axles,
+            weight: c.weight,
+            length: c.length,
+            rated: c.rated,
+            application: ms,
+            recharge: c.recharge,
+            set: c.set,
+            offset: c.offset,
+            blocks,
+        },
+    }
+}
+
+// The update, the prediction, the standing penalty and emergency, the two decisions, and what the sample teaches.
 fn advance(x: Session, m: Sample, p: &[u8], t: &[u8]) -> After
-    requires { ⌜ Ready (x .consist) (x .brake) m (now p) ⌝ }
+    requires ready { ⌜ Ready (x .consist) (x .brake) m (now p) ⌝ }
+    requires learner { ⌜ Sound (x .learner) ⌝ }
     ensures { λ r. ⌜ r ≡ afterOf x m (now (p .entry)) (now (t .entry)) ⌝ }
 {
     let c = x.consist;
@@ -48,10 +107,16 @@ fn advance(x: Session, m: Sample, p: &[u8], t: &[u8]) -> After
     let number = brake::state_number(state);
     let decision = decided(false, m.time, number, cause, found.stop);
     let emergency = decided(true, m.time, number, called, found.emergency_stop);
+    let l = x.learner;
+    let lesson = learn::taught(l, shown(c, updated, m));
+    let learnt = lesson.learnt;
+    let learner = lesson.learner;
+    let consist = in_force(c, learnt);
     let session = Session {
         opened: true,
-        consist: c,
+        consist,
         brake: updated,
+        learner,
         cause,
         emergency: called,
     };

@@ -14,6 +14,9 @@ use Rattle.targets.specs.Targets as targets
 use Rattle.brake.specs.Brake.{atOpening, isAtOpening}
 use Rattle.brake.specs.Sound as brake
 use Rattle.brake.proofs.Tested as brake-tested
+use Rattle.learn.specs.Stage as learn
+use Rattle.learn.specs.Sound as learner
+use Rattle.learn.proofs.Tested as learner-tested
 use Rattle.session.specs.declared.Session.{Session}
 use Rattle.session.specs.Session.{isFresh, isBehind, isOpen}
 
@@ -23,10 +26,11 @@ pub record Opened (x : Session) : Type 0 where
   pub tested : consist.isSound (x .consist) ≡ true
   pub consist : sound.Sound (x .consist)
   pub brake : brake.Sound (x .consist) (x .brake)
+  pub learner : learner.Sound (x .learner)
   pub cause : x .cause ≤ targets.most
   pub emergency : x .emergency ≤ targets.most
   pub behind : 0 < x .emergency → 0 < x .cause
-  pub fresh : x .brake .sampled ≡ false → (x .brake ≡ atOpening (x .consist) (x .brake .choice)) × (x .cause ≡ 0) × (x .emergency ≡ 0)
+  pub fresh : x .brake .sampled ≡ false → (x .brake ≡ atOpening (x .consist) (x .brake .choice)) × (x .learner ≡ learn.atOpening) × (x .cause ≡ 0) × (x .emergency ≡ 0)
 
 -- one of two
 other : (a b : Bool) → a || b ≡ true → a ≡ false → b ≡ true
@@ -38,11 +42,16 @@ all-three a b c h =
     let two = and-true-left (a && b) c h in
     (and-true-left a b two, and-true-right a b two, and-true-right (a && b) c h)
 
-all-five : (a b c d e : Bool) → a && b && c && d && e ≡ true → (a ≡ true) × (b ≡ true) × (c ≡ true) × (d ≡ true) × (e ≡ true)
-all-five a b c d e h =
-    let (three, four, five) = all-three (a && b && c) d e h in
-    let (one, two, third) = all-three a b c three in
-    (one, two, third, four, five)
+all-four : (a b c d : Bool) → a && b && c && d ≡ true → (a ≡ true) × (b ≡ true) × (c ≡ true) × (d ≡ true)
+all-four a b c d h =
+    let (both, third, fourth) = all-three (a && b) c d h in
+    (and-true-left a b both, and-true-right a b both, third, fourth)
+
+all-six : (a b c d e f : Bool) → a && b && c && d && e && f ≡ true → (a ≡ true) × (b ≡ true) × (c ≡ true) × (d ≡ true) × (e ≡ true) × (f ≡ true)
+all-six a b c d e f h =
+    let (three, fourth, fifth, sixth) = all-four (a && b && c) d e f h in
+    let (first, second, third) = all-three a b c three in
+    (first, second, third, fourth, fifth, sixth)
 
 -- where an emergency stands, a penalty does
 is-behind : (x : Session) → isBehind x ≡ true → 0 < x .emergency → 0 < x .cause
@@ -55,19 +64,22 @@ unfolding isOpen
 opened x h =
     let c = x .consist in
     let k = x .brake in
-    let held = x .opened && consist.isSound c && brake.isSound c k && leb (x .cause) targets.most && leb (x .emergency) targets.most in
+    let l = x .learner in
+    let held = x .opened && consist.isSound c && brake.isSound c k && learner.isSound l && leb (x .cause) targets.most && leb (x .emergency) targets.most in
     let (all, behind, fresh) = all-three held (isBehind x) (k .sampled || isFresh x) h in
-    let (opened, tested, sound, cause, emergency) = all-five (x .opened) (consist.isSound c) (brake.isSound c k) (leb (x .cause) targets.most) (leb (x .emergency) targets.most) all in
+    let (opened, tested, sound, learning, cause, emergency) = all-six (x .opened) (consist.isSound c) (brake.isSound c k) (learner.isSound l) (leb (x .cause) targets.most) (leb (x .emergency) targets.most) all in
     let facts = consist-sound.is-sound c tested in
     record {
       opened = opened;
       tested = tested;
       consist = consist-sound.sound c (facts .0) (facts .1) (facts .2);
       brake = brake-tested.sound-is c k .0 sound;
+      learner = learner-tested.sound-of l learning;
       cause = leb-true (x .cause) targets.most cause;
       emergency = leb-true (x .emergency) targets.most emergency;
       behind = is-behind x behind;
       fresh = λ e.
-          let (brake, none, neither) = all-three (isAtOpening c k) (eqb (x .cause) 0) (eqb (x .emergency) 0) (other (k .sampled) (isFresh x) fresh e) in
-          (brake-tested.is-at-opening c k brake e, eqb-true (x .cause) 0 none, eqb-true (x .emergency) 0 neither);
+          let (brake, learner, none, neither) =
+          all-four (isAtOpening c k) (learn.isAtOpening l) (eqb (x .cause) 0) (eqb (x .emergency) 0) (other (k .sampled) (isFresh x) fresh e) in
+          (brake-tested.is-at-opening c k brake e, learner-tested.at-opening-of l learner, eqb-true (x .cause) 0 none, eqb-true (x .emergency) 0 neither);
     }

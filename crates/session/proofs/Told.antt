@@ -5,13 +5,17 @@ use Prim.Native.Nat.{ℕ}
 use Rattle.refusal.proofs.Numbers.{told-one}
 use Rattle.brake.specs.declared.Brake.{Brake}
 use Rattle.brake.proofs.Told.{brake-one}
+use Rattle.learn.specs.declared.Learner.{Learner}
+use Rattle.learn.proofs.Told.{learner-one}
 use Rattle.session.specs.declared.Session.{Session}
 use Rattle.session.specs.declared.Answer.{Answer}
 use Rattle.session.specs.Session.{Told, sessionTold, answer, answerTold, callTold}
 
 pub session-one : (x y : Session) → sessionTold x ≡ sessionTold y → x ≡ y
 session-one x y h =
-    ap₂ (λ (k : Brake) (t : Told). record { opened = t .0; consist = t .1; brake = k; cause = t .3; emergency = t .4 }) (brake-one (x .brake) (y .brake) (λ i. h i .2)) h
+    let brakes = brake-one (x .brake) (y .brake) (λ i. h i .2) in
+    let learners = learner-one (x .learner) (y .learner) (λ i. h i .3) in
+    λ i. record { opened = h i .0; consist = h i .1; brake = brakes i; learner = learners i; cause = h i .4; emergency = h i .5 }
 
 pub answer-one : (x y : Answer) → answerTold x ≡ answerTold y → x ≡ y
 answer-one x y h =

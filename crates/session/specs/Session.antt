@@ -13,14 +13,17 @@ use Rattle.targets.specs.Targets as targets
 use Rattle.brake.specs.declared.Choice.the-variants.{FiveSeconds}
 use Rattle.brake.specs.Brake.{brakeTold, atOpening, isAtOpening}
 use Rattle.brake.specs.Sound as brake
+use Rattle.learn.specs.Stage as learn
+use Rattle.learn.specs.Stage.{learnerTold}
+use Rattle.learn.specs.Sound as learner
 use Rattle.session.specs.declared.Session.{Session}
 use Rattle.session.specs.declared.Answer.{Answer}
 
 -- ---- "a session is open"
 
--- what a session is that has taken no sample: the brake of an opening, and no cause of penalty or emergency
+-- what a session is that has taken no sample: brake and learner of an opening, and no cause of penalty or emergency
 abbrev pub isFresh : Session → Bool
-isFresh x = isAtOpening (x .consist) (x .brake) && eqb (x .cause) 0 && eqb (x .emergency) 0
+isFresh x = isAtOpening (x .consist) (x .brake) && learn.isAtOpening (x .learner) && eqb (x .cause) 0 && eqb (x .emergency) 0
 
 -- "Emergency behind the penalty": none stands without a penalty
 abbrev pub isBehind : Session → Bool
@@ -32,6 +35,7 @@ isOpen x =
     x .opened
     && consist.isSound (x .consist)
     && brake.isSound (x .consist) (x .brake)
+    && learner.isSound (x .learner)
     && leb (x .cause) targets.most
     && leb (x .emergency) targets.most
     && isBehind x
@@ -39,7 +43,14 @@ isOpen x =
 
 -- the value before any opening
 abbrev pub noneOpen : Session
-noneOpen = record { opened = false; consist = consist.none; brake = atOpening consist.none FiveSeconds; cause = 0; emergency = 0 }
+noneOpen = record {
+  opened = false;
+  consist = consist.none;
+  brake = atOpening consist.none FiveSeconds;
+  learner = learn.atOpening;
+  cause = 0;
+  emergency = 0;
+}
 
 -- what a call hands back
 abbrev pub answer : Session → Verdict → Answer
@@ -51,12 +62,12 @@ refusedWith x r = answer x (Refused r)
 
 -- ---- the paper's number and values
 
--- opened or not, the consist, what the air brakes hold, the penalty's cause, the emergency's
+-- opened or not, the consist, what the air brakes hold, what is kept of learning, the penalty's cause, the emergency's
 abbrev pub Told : Type 0
-Told = Bool × Consist × List ℕ × ℕ × ℕ
+Told = Bool × Consist × List ℕ × List ℕ × ℕ × ℕ
 
 abbrev pub sessionTold : Session → Told
-sessionTold x = (x .opened, x .consist, brakeTold (x .brake), x .cause, x .emergency)
+sessionTold x = (x .opened, x .consist, brakeTold (x .brake), learnerTold (x .learner), x .cause, x .emergency)
 
 -- of an answer, the number of its verdict and the session
 abbrev pub answerTold : Answer → ℕ × Told

@@ -3,6 +3,8 @@ use blocks::Blocks;
 use brake::Brake;
 use brake::Choice;
 use consist::Consist;
+use learn::Learner;
+use learn::Stage;
 use refusal::Verdict;
 use targets::Target;
 ghost use mathlib.Core.Path.{_≡_};
@@ -13,8 +15,11 @@ ghost use Rattle.session.specs.Open.{openOf};
 pub struct Session {
     // by an opening
     pub opened: bool,
+    // its application time is the one in force: typed, or learnt since
     pub consist: Consist,
     pub brake: Brake,
+    // what is kept of the application that is under way
+    pub learner: Learner,
     // the standing penalty's: the target's place in the list, from 1, or 0 for none
     pub cause: u8,
     // the standing emergency's, likewise; it stands behind a penalty only
@@ -45,10 +50,12 @@ pub fn none() -> Session
         blocks,
     };
     let brake = Brake::at_opening(consist, Choice::FiveSeconds);
+    let learner = Learner::bare(Stage::Waiting);
     Session {
         opened: false,
         consist,
         brake,
+        learner,
         cause: 0,
         emergency: 0,
     }
@@ -60,13 +67,17 @@ pub fn is_open(x: Session) -> bool
 {
     let c = x.consist;
     let k = x.brake;
+    let l = x.learner;
     let consist_sound = consist::is_sound(c);
     let brake_sound = k.is_sound(c);
-    let fresh = k.is_at_opening(c) & (x.cause == 0) & (x.emergency == 0);
+    let learner_sound = l.is_sound();
+    let opening = k.is_at_opening(c) & l.is_at_opening();
+    let fresh = opening & (x.cause == 0) & (x.emergency == 0);
     let behind = (x.emergency == 0) | (x.cause != 0);
     x.opened
         & consist_sound
         & brake_sound
+        & learner_sound
         & (x.cause as usize <= Target::MOST)
         & (x.emergency as usize <= Target::MOST)
         & behind
@@ -87,11 +98,13 @@ pub fn open(x: Session, s: &[u8], choice: Choice) -> Answer
     };
     let c = read.consist;
     let brake = Brake::at_opening(c, choice);
+    let learner = Learner::bare(Stage::Waiting);
     Answer {
         session: Session {
             opened: true,
             consist: c,
             brake,
+            learner,
             cause: 0,
             emergency: 0,
         },

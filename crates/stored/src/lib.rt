@@ -40,7 +40,7 @@ fn size_for(count: u8) -> usize
     SIZE + Blocks::SIZE * count as usize + seal::SIZE
 }
 
-// The first four fields. The fields are put in four parts, each short enough to be put without a loop.
+// The first four fields. The fields are put in seven parts, each short enough to be put without a loop.
 fn put_first(x: Session, out: &mut [u8])
     ensures { λ _. ⌜ now (out .exit) ≡ putFrom 0 (take 4 widths) (take 4 (fieldsOf x)) (now (out .entry)) ⌝ }
 {
@@ -77,9 +77,9 @@ fn put_pressures(x: Session, out: &mut [u8])
     bits::put_fields(out, 56, &widths, &values);
 }
 
-// The other four.
+// Fall, last front, last rear and last time.
 fn put_back(x: Session, out: &mut [u8])
-    ensures { λ _. ⌜ now (out .exit) ≡ putFrom 120 (drop 11 widths) (drop 11 (fieldsOf x)) (now (out .entry)) ⌝ }
+    ensures { λ _. ⌜ now (out .exit) ≡ putFrom 120 (take 4 (drop 11 widths)) (take 4 (drop 11 (fieldsOf x))) (now (out .entry)) ⌝ }
 {
     let k = x.brake;
     let widths = [16, 16, 16, 24];
@@ -92,17 +92,68 @@ fn put_back(x: Session, out: &mut [u8])
     bits::put_fields(out, 120, &widths, &values);
 }
 
-// Puts the front over the first 44 bytes of `out`.
+// The learner's stage, when the front fell, t_INIT and the last point's t.
+fn put_stage(x: Session, out: &mut [u8])
+    ensures { λ _. ⌜ now (out .exit) ≡ putFrom 192 (take 4 (drop 15 widths)) (take 4 (drop 15 (fieldsOf x))) (now (out .entry)) ⌝ }
+{
+    let l = x.learner;
+    let stage = l.stage;
+    let number = learn::stage_number(stage);
+    let widths = [4, 24, 12, 12];
+    let values = [number as u64, l.since as u64, l.init as u64, l.last as u64];
+    bits::put_fields(out, 192, &widths, &values);
+}
+
+// p0 or the last point's p, the count of points and the sum of their times.
+fn put_points(x: Session, out: &mut [u8])
+    ensures { λ _. ⌜ now (out .exit) ≡ putFrom 244 (take 3 (drop 19 widths)) (take 3 (drop 19 (fieldsOf x))) (now (out .entry)) ⌝ }
+{
+    let l = x.learner;
+    let s = l.sums;
+    let widths = [16, 9, 18];
+    let values = [l.pressure as u64, s.count as u64, s.times as u64];
+    bits::put_fields(out, 244, &widths, &values);
+}
+
+// The other three sums.
+fn put_sums(x: Session, out: &mut [u8])
+    ensures { λ _. ⌜ now (out .exit) ≡ putFrom 287 (drop 22 widths) (drop 22 (fieldsOf x)) (now (out .entry)) ⌝ }
+{
+    let l = x.learner;
+    let s = l.sums;
+    let widths = [27, 22, 32];
+    let values = [s.squares as u64, s.pressures as u64, s.products as u64];
+    bits::put_fields(out, 287, &widths, &values);
+}
+
+// What is kept of learning.
+fn put_learner(x: Session, out: &mut [u8])
+    ensures { λ _. ⌜ now (out .exit) ≡ putFrom 192 (drop 15 widths) (drop 15 (fieldsOf x)) (now (out .entry)) ⌝ }
+{
+    put_stage(x, out);
+    put_points(x, out);
+    put_sums(x, out);
+}
+
+// The record's own fields.
+fn put_own(x: Session, out: &mut [u8])
+    ensures { λ _. ⌜ now (out .exit) ≡ putFrom 0 widths (fieldsOf x) (now (out .entry)) ⌝ }
+{
+    put_first(x, out);
+    put_state(x, out);
+    put_pressures(x, out);
+    put_back(x, out);
+    put_learner(x, out);
+}
+
+// Puts the front over the first 66 bytes of `out`.
 fn put_front(x: Session, out: &mut [u8])
     requires opened { ⌜ isOpen x ≡ true ⌝ }
     requires room { ⌜ size ≤ length (now out) ⌝ }
     ensures { λ _. ⌜ now (out .exit) ≡ frontOf x ++ drop size (now (out .entry)) ⌝ }
 {
     let c = x.consist;
-    put_first(x, out);
-    put_state(x, out);
-    put_pressures(x, out);
-    put_back(x, out);
+    put_own(x, out);
     // not refused: an open session's consist is sound
     consist::write(c.alone(), &mut out[OWN..BODY]);
     seal::put_check_word(&mut out[0..SIZE]);

@@ -1,5 +1,7 @@
 -- `sampling::advance` meets its contract. Assumes nothing.
+use mathlib.Core.Path.{ap, _∙_}
 use denote.Ref.{now}
+use Rattle.learn.specs.Kept.{taughtOf}
 use Rattle.sampling.proofs.Accepted.{predictable, after-is}
 use borrow.Author.Needs.{needs}
 use Rattle.sampling.proofs.advance.Statement.{statement}
@@ -11,11 +13,17 @@ start c = c .before .before .before .before .before
 of-sample-requires : tie.Need-of-sample-requires
 of-sample-requires c κs =
     let a = start c .args in
-    rw (c .updated .ensures) (predictable (a .x) (a .m) (now (a .p)) (start c .pre))
+    rw (c .updated .ensures) (predictable (a .x) (a .m) (now (a .p)) (start c .pre .0))
+
+taught-requires : tie.Need-taught-requires
+taught-requires c κs = c .before .before .before .before .before .before .before .before .before .before .before .before .before .pre .1
 
 returns : tie.Need-returns
 returns c =
-    let first = c .before in
+    let taught = c .before .before in
+    let shown = taught .before in
+    let second = shown .before .before in
+    let first = second .before in
     let number = first .before in
     let stays = number .before in
     let stands = stays .before in
@@ -23,11 +31,12 @@ returns c =
     let updated = found .before in
     let a = start updated .args in
     after-is (a .x) (a .m) (now (a .p)) (now (a .t)) (updated .updated .result) (found .of-sample .result) (stands .standing .result)
-    (stays .standing2 .result) (number .state-number .result) (first .decided .result) (c .decided2 .result) (updated .updated .ensures) (found .of-sample .ensures)
-    (stands .standing .ensures) (stays .standing2 .ensures) (number .state-number .ensures) (first .decided .ensures) (c .decided2 .ensures)
+    (stays .standing2 .result) (number .state-number .result) (first .decided .result) (second .decided2 .result) (taught .taught .result) (c .in-force .result) (updated .updated .ensures) (found .of-sample .ensures)
+    (stands .standing .ensures) (stays .standing2 .ensures) (number .state-number .ensures) (first .decided .ensures) (second .decided2 .ensures)
+    (taught .taught .ensures ∙ ap (taughtOf (a .x .learner)) (shown .shown .ensures)) (c .in-force .ensures)
 
 pub advance-spec : {M : Type 1} → statement M
 advance-spec =
     tie.close
     (tie.spec (λ c κs. search needs) of-sample-requires (λ c κs. search needs) (λ c κs. search needs) (λ c κs. search needs) (λ c κs. search needs)
-    (λ c κs. search needs) returns)
+    (λ c κs. search needs) (λ c κs. search needs) taught-requires (λ c κs. search needs) returns)

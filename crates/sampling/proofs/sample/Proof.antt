@@ -19,7 +19,7 @@ use Rattle.sampling.specs.declared.After.{After}
 use Rattle.session.specs.Session.{answer, callTold}
 use Rattle.sampling.specs.Sample.{sampleIn, sessionAfter, sampleCall}
 use Rattle.sampling.specs.Steps.{rulesBefore, afterOf}
-use Rattle.sampling.proofs.Admitted.{not-open, past-open, ready, in-range, emergency-in-range}
+use Rattle.sampling.proofs.Admitted.{not-open, past-open, is-opened, ready, in-range, emergency-in-range}
 use Rattle.sampling.proofs.Calls.{call-before, call-written}
 use borrow.Author.Needs.{needs}
 use Rattle.sampling.proofs.sample.Statement.{statement}
@@ -91,7 +91,10 @@ returns-2 c =
 advance-requires : tie.Need-advance-requires
 advance-requires c κs =
     let k = begun (c .before) in
-    subst (λ (m : Sample). Ready (x k .consist) (x k .brake) m (p k)) (admitted (c .before)) (ready (x k) (s k) (p k) (t k) (passes (c .before)))
+    let before = passes (c .before) in (
+      subst (λ (m : Sample). Ready (x k .consist) (x k .brake) m (p k)) (admitted (c .before)) (ready (x k) (s k) (p k) (t k) before),
+      is-opened (x k) (s k) (p k) (t k) before .learner,
+    )
 
 -- past the walk: what the writer says of the decisions is handed on
 module _ (c : tie.After-write-both) where

@@ -1,9 +1,6 @@
 -- `session::none` meets its contract. Assumes nothing.
-use mathlib.Core.Path.{ap₂}
 use mathlib.Core.Bool.{false}
-use Rattle.blocks.specs.declared.Blocks.{Blocks}
 use Rattle.consist.specs.Consist as consist
-use Rattle.brake.specs.declared.Brake.{Brake}
 use Rattle.session.specs.Session.{sessionTold}
 use borrow.Author.Needs.{needs}
 use Rattle.session.proofs.none.Statement.{statement}
@@ -11,8 +8,16 @@ use Rattle.session.proofs.none.Tie as tie
 
 returns : tie.Need-returns
 returns c =
-    ap₂ (λ (b : Blocks) (k : Brake). sessionTold (record { opened = false; consist = consist.withBlocks consist.none b; brake = k; cause = 0; emergency = 0 }))
-    (c .before .none .ensures) (c .at-opening .ensures)
+    let opening = c .before in
+    let none = opening .before .none .ensures in
+    λ i. sessionTold (record {
+      opened = false;
+      consist = consist.withBlocks consist.none (none i);
+      brake = opening .at-opening .ensures i;
+      learner = c .bare .ensures i;
+      cause = 0;
+      emergency = 0;
+    })
 
 pub none-spec : {M : Type 1} → statement M
-none-spec = tie.close (tie.spec (λ c κs. search needs) (λ c κs. search needs) returns)
+none-spec = tie.close (tie.spec (λ c κs. search needs) (λ c κs. search needs) (λ c κs. search needs) returns)

@@ -8,7 +8,6 @@ use Rattle.refusal.specs.declared.Verdict.the-variants.{Accepted}
 use Rattle.refusal.proofs.Numbers.{told-one}
 use Rattle.consist.specs.declared.Consist.{Consist}
 use Rattle.consist.specs.Consist.{readConsist}
-use Rattle.brake.specs.declared.Brake.{Brake}
 use Rattle.session.specs.Session.{answer, answerTold}
 use Rattle.session.specs.Open.{openedWith, openedBy, openOf}
 use borrow.Author.Needs.{needs}
@@ -36,13 +35,16 @@ returns c =
 
 returns-2 : tie.Need-returns-2
 returns-2 c =
-    let k = c .before .before .before .before in
+    let opening = c .before in
+    let k = opening .before .before .before .before in
+    let opened : answer (record { opened = true; consist = read k .1; brake = opening .at-opening .result; learner = c .bare .result; cause = 0; emergency = 0 }) Accepted ≡ answer (openedWith (read k .1) (start k .args .choice)) Accepted =
+    λ i. answer (record { opened = true; consist = read k .1; brake = opening .at-opening .ensures i; learner = c .bare .ensures i; cause = 0; emergency = 0 }) Accepted in
     ap answerTold
-    (ap (λ (b : Brake). answer (record { opened = true; consist = read k .1; brake = b; cause = 0; emergency = 0 }) Accepted) (c .at-opening .ensures)
-    ∙ ap (λ (v : Verdict). openedBy (start k .args .x) (v, read k .1) (start k .args .choice)) (sym (c .before .before .enum-told .given .1))
+    (opened
+    ∙ ap (λ (v : Verdict). openedBy (start k .args .x) (v, read k .1) (start k .args .choice)) (sym (opening .before .before .enum-told .given .1))
     ∙ opened-by k)
 
 pub open-spec : {M : Type 1} → statement M
 open-spec =
     tie.close
-    (tie.spec (λ c κs. search needs) (λ c. search needs) (λ c. search needs) returns (λ c κs. search needs) returns-2)
+    (tie.spec (λ c κs. search needs) (λ c. search needs) (λ c. search needs) returns (λ c κs. search needs) (λ c κs. search needs) returns-2)

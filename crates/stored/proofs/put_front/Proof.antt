@@ -65,18 +65,11 @@ returns c =
     let sealed = c .before .before in
     let written = sealed .before .before .before .before in
     let alone-at = written .before .before in
-    let back = alone-at .before .before .before in
-    let pressures = back .before .before .before .before in
-    let state = pressures .before .before .before .before in
-    let front = state .before .before .before .before in
-    let start = front .before .before .before in
+    let own = alone-at .before .before .before in
+    let start = own .before .before .before in
     let a = start .before .args in
     all-put (a .x) (start .before .pre .0) (now (a .out)) _ _ _ _ (λ i. start .slice-known .given i .fits) (start .before .pre .1)
-    (back .put-back .ensures
-    ∙ ap (putFrom 120 (drop 11 widths) (drop 11 (fieldsOf (a .x))))
-    (pressures .put-pressures .ensures
-    ∙ ap (putFrom 56 (take 4 (drop 7 widths)) (take 4 (drop 7 (fieldsOf (a .x)))))
-    (state .put-state .ensures ∙ ap (putFrom 25 (take 3 (drop 4 widths)) (take 3 (drop 4 (fieldsOf (a .x))))) (front .put-first .ensures))))
+    (own .put-own .ensures)
     (alone-at .alone .ensures)
     (λ i. written .write .ensures i .1)
     (sealed .put-check-word .ensures)
@@ -85,6 +78,6 @@ pub put-front-spec : {M : Type 1} → statement M
 put-front-spec =
     tie.close
     (tie.spec
-    (λ c κs. search needs) (λ c κs. search needs) (λ c κs. search needs) (λ c κs. search needs) (λ c κs. search needs) (λ c. search needs) (λ c. search needs) (λ c. search needs) (λ c κs. search needs)
+    (λ c κs. search needs) (λ c κs. search needs) (λ c. search needs) (λ c. search needs) (λ c. search needs) (λ c κs. search needs)
     (λ c. search needs) (λ c. search needs) (λ c. search needs) (λ c κs. search needs) (λ c. search needs)
     returns)
