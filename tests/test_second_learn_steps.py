@@ -222,7 +222,8 @@ class Letters(unittest.TestCase):
                 seen[what] = seen.get(what, 0) + 1
                 self.assertEqual((trip.time, trip.learning), (letter.time, letter.learning()), (sample, what))
         for what in ("learnt", "anew", "done", "waits", "waits again", "600", "lost in 1", "lost in 2", "lost in 3", "p0",
-                     "no 3 psi", "stays", "on", "cut in 3 by 5", "cut in 3 by 3", "cut in 4 by 5", "cut in 4 by 3", "cut in 2 by 3"):
+                     "no 3 psi", "stays", "on", "cut in 2 by 3", "cut in 3 by 3", "cut in 3 by 5", "cut in 4 by 3",
+                     "cut in 4 by 5"):
             self.assertGreater(seen.get(what, 0), 3, what)
 
 
