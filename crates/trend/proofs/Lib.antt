@@ -1,1 +1,4 @@
 -- Laws of the line.
+pub mod Words
+pub mod Bounds
+pub mod Rounding
