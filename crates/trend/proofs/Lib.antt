@@ -2,3 +2,6 @@
 pub mod Words
 pub mod Bounds
 pub mod Rounding
+pub mod Ranges
+pub mod Falling
+pub mod Figures
