@@ -2,6 +2,7 @@
 pub mod Words
 pub mod Bounds
 pub mod Rounding
+pub mod Unique
 pub mod Ranges
 pub mod Falling
 pub mod Figures
