@@ -1,9 +1,11 @@
 -- What the sums of at most 256 points are within, and what the line's words have room for. Definitions only.
 use Prim.Native.Nat.{ℕ, _*_, _≤_, _<_}
+use mathlib.Core.Path.{_≡_}
 use mathlib.Core.Bool.{Bool, _&&_}
 use lib.Dec.{leb}
-use lib.IntN.{ℤ, pos, natAbs}
+use lib.IntN.{ℤ, pos, natAbs, _*ℤ_}
 use lib.Signed.{_<ℤ_}
+use Rattle.whole.specs.Floor.{floorDiv}
 use Rattle.trend.specs.declared.Sums.{Sums}
 
 -- "At most 256 points are kept"
@@ -41,9 +43,23 @@ pub record Small (s : Sums) : Type 0 where
   pub pressures : s .pressures ≤ 4200000
   pub products : s .products ≤ 2500000000
 
+-- the greatest product of two such sums
+abbrev pub wordMost : ℕ
+wordMost = 400000000000000
+
+-- a × b − c × d, of products that are at most m
+pub record Room (m a b c d : ℕ) : Type 0 where
+  pub first : a * b ≤ m
+  pub second : c * d ≤ m
+
 -- X and Y of small sums, as what they are divided by has room for them
-pub record Fraction (init : ℕ) (x y : ℤ) : Type 0 where
-  pub timely : init < 600
+pub record Fraction (x y : ℤ) : Type 0 where
   pub dividend : natAbs x ≤ 2200000000000000
   pub above : pos 0 <ℤ y
   pub divisor : natAbs y ≤ 100000000000000
+
+-- 100 X / Y down, where no end of the range holds the time
+pub record Quotient (x y quotient : ℤ) : Type 0 where
+  pub fraction : Fraction x y
+  pub down : quotient ≡ floorDiv (pos 100 *ℤ x) y
+  pub within : natAbs quotient ≤ 1000

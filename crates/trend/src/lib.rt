@@ -1,11 +1,12 @@
 // The least-squares line through the points of a falling rear pressure, by their sums, and the application time that it gives.
 // Every public function but `is_sound` and `none` asks for sums that are small enough for its words.
 ghost use mathlib.Core.Path.{_≡_};
-ghost use Prim.Native.Nat.{_≤_, _<_};
+ghost use Prim.Native.Nat.{_*_, _<_};
+ghost use lib.IntN.{pos, _-ℤ_, _*ℤ_};
 ghost use Rattle.trend.specs.Points.{withPoint, noSums};
-ghost use Rattle.trend.specs.Sound.{Sound, Small, Fraction, isSound};
+ghost use Rattle.trend.specs.Sound.{wordMost, Sound, Small, Room, Fraction, Quotient, isSound};
 ghost use Rattle.trend.specs.Line.{slopeTop, interceptTop, bottom, levelsOff};
-ghost use Rattle.trend.specs.Result.{dividend, divisor, timeOf, resultOf};
+ghost use Rattle.trend.specs.Result.{dividend, divisor, roundedUp, inRange, timeOf, resultOf};
 
 // The sums of points (t, p), t in seconds, p in hundredths of a psi.
 pub struct Sums {
@@ -75,12 +76,25 @@ impl Sums {
     }
 }
 
+// a × b − c × d, which M, B and Z all are.
+fn determinant(a: u64, b: u64, c: u64, d: u64) -> i64
+    requires { ⌜ Room wordMost a b c d ⌝ }
+    ensures { λ r. ⌜ r ≡ pos (a * b) -ℤ pos (c * d) ⌝ }
+{
+    (a * b) as i64 - (c * d) as i64
+}
+
 // M: the line's slope is M / Z.
 fn slope_top(s: Sums) -> i64
     requires { ⌜ Small s ⌝ }
     ensures { λ r. ⌜ r ≡ slopeTop s ⌝ }
 {
-    s.count as i64 * s.products as i64 - s.times as i64 * s.pressures as i64
+    determinant(
+        s.count as u64,
+        s.products as u64,
+        s.times as u64,
+        s.pressures as u64,
+    )
 }
 
 // B: its intercept is B / Z.
@@ -88,7 +102,12 @@ fn intercept_top(s: Sums) -> i64
     requires { ⌜ Small s ⌝ }
     ensures { λ r. ⌜ r ≡ interceptTop s ⌝ }
 {
-    s.squares as i64 * s.pressures as i64 - s.times as i64 * s.products as i64
+    determinant(
+        s.squares as u64,
+        s.pressures as u64,
+        s.times as u64,
+        s.products as u64,
+    )
 }
 
 // Z.
@@ -96,7 +115,12 @@ fn bottom(s: Sums) -> i64
     requires { ⌜ Small s ⌝ }
     ensures { λ r. ⌜ r ≡ bottom s ⌝ }
 {
-    s.count as i64 * s.squares as i64 - s.times as i64 * s.times as i64
+    determinant(
+        s.count as u64,
+        s.squares as u64,
+        s.times as u64,
+        s.times as u64,
+    )
 }
 
 // Whether the last slope, of this fall in so many seconds, is less than half the line's.
@@ -133,9 +157,29 @@ fn divisor(equalization: u16, p: u16, s: Sums) -> i64
     }
 }
 
-// The time in ms. 100 X / Y is taken first, down, and its rest by 1,000 after, as 100,000 X may not fit.
+// 100,000 X / Y up, by 100 X / Y, down, and what that leaves: 100,000 X may not fit.
+fn rounded_up(x: i64, y: i64, quotient: i64) -> i64
+    requires { ⌜ Quotient x y quotient ⌝ }
+    ensures { λ r. ⌜ r ≡ roundedUp (pos 100000 *ℤ x) y ⌝ }
+{
+    let rest = 100 * x - y * quotient;
+    let up = whole::ceil_div(1_000 * rest as u64, y as u64);
+    1_000 * quotient + up as i64
+}
+
+fn in_range(ms: i64) -> u32
+    ensures { λ r. ⌜ r ≡ inRange ms ⌝ }
+{
+    if ms < 1_000 {
+        return 1_000;
+    }
+    whole::lesser(ms as u64, 240_000) as u32
+}
+
+// The time in ms. Far from the range, the quotient alone tells at which end of it the time is held.
 fn time(init: u16, x: i64, y: i64) -> u32
-    requires { ⌜ Fraction init x y ⌝ }
+    requires timely { ⌜ init < 600 ⌝ }
+    requires fraction { ⌜ Fraction x y ⌝ }
     ensures { λ r. ⌜ r ≡ timeOf init x y ⌝ }
 {
     let quotient = whole::floor_div(100 * x, y);
@@ -145,13 +189,7 @@ fn time(init: u16, x: i64, y: i64) -> u32
     if quotient < -1_000 {
         return 1_000;
     }
-    let rest = 100 * x - quotient * y;
-    let up = whole::ceil_div(1_000 * rest as u64, y as u64);
-    let ms = 1_000 * (init as i64 + 1) + 1_000 * quotient + up as i64;
-    if ms < 1_000 {
-        return 1_000;
-    }
-    whole::lesser(ms as u64, 240_000) as u32
+    in_range((1_000 * (init as u32 + 1)) as i64 + rounded_up(x, y, quotient))
 }
 
 // The application time by the line over the points before the last one, whose pressure is p.
@@ -162,8 +200,9 @@ pub fn result(init: u16, equalization: u16, p: u16, s: Sums) -> Learnt
 {
     let x = dividend(equalization, s);
     let y = divisor(equalization, p, s);
-    if y <= 0 {
-        return Learnt::Nothing;
+    if 0 < y {
+        Learnt::Time(time(init, x, y))
+    } else {
+        Learnt::Nothing
     }
-    Learnt::Time(time(init, x, y))
 }
