@@ -75,6 +75,7 @@ calls = record {
   lent-open = call (λ M. lent.open.Met.met) (λ l a r x p. p);
   lent-sample = call (λ M. lent.sample.Met.met) (λ l a r x p. ap {B = ℕ × (List ℕ × List ℕ)} (λ ((n, x, d) : Sampled). (n, (x, d))) p);
   lent-is-open = plain (λ M. lent.is_open.Met.met) (λ l a r x p. p);
+  lent-application = plain (λ M. lent.application.Met.met) (λ l a r x p. p);
   writes-consist = call (λ M. writes.consist.Met.met) (λ l a r x p. p);
   writes-manifest = call (λ M. writes.manifest.Met.met) (λ l a r x p. p);
   writes-profile = call (λ M. writes.profile.Met.met) (λ l a r x p. p);
@@ -89,6 +90,7 @@ calls = record {
   buongilach-open-with = call (λ M. library.buongilach_open_with.Met.met) (λ l a r x p. p);
   buongilach-sample = call (λ M. library.buongilach_sample.Met.met) (λ l a r x p. ap {B = ℕ × (List ℕ × List ℕ)} (λ ((n, x, d) : Sampled). (n, (x, d))) p);
   buongilach-is-open = plain (λ M. library.buongilach_is_open.Met.met) (λ l a r x p. p);
+  buongilach-application = plain (λ M. library.buongilach_application.Met.met) (λ l a r x p. p);
   buongilach-write-consist = call (λ M. records.buongilach_write_consist.Met.met) (λ l a r x p. p);
   buongilach-write-manifest = call (λ M. records.buongilach_write_manifest.Met.met) (λ l a r x p. p);
   buongilach-judge-consist = plain (λ M. records.buongilach_judge_consist.Met.met) (λ l a r x p. p);

@@ -53,6 +53,7 @@ use Rattle.laws.proofs.HeldTrip.{bytes-of, bytes-read, start-is}
 use Rattle.lent.specs.Lent.{zeros, bufferOf, openRules, openBytes, Sampled, sampledBy, sampleBytes}
 use Rattle.lent.proofs.Calls.{buffer-size, buffer-is}
 use Rattle.demands.specs.Machine.{Call, opening, sampling, Lends, Reply, Machine, call, ours, Unopened, carry, Does, Slice}
+use Rattle.learn.proofs.Stages.{stage-number-most}
 use Rattle.demands.specs.Program.{Words, FitsBlocks, FitsWords, byValue, ourProgram}
 use Rattle.demands.specs.Program as program
 use Rattle.demands.specs.Library.{inBytes, ourLibrary, DamageSeen}
@@ -91,10 +92,13 @@ open-fits : (x : Session) → isOpen x ≡ true → FitsWords x
 unfolding soundBlocks
 open-fits x h =
     let o = opened x h in
-    let k = o .brake in (
+    let k = o .brake in
+    let l = o .learner in
+    let s = l .sums in (
       omega (arith, o .consist .ranged),
       omega (arith, number-most (x .brake .state), bit-fits (x .brake .sampled), choice-most (x .brake .choice), k .a, k .b, k .equalization, k .fall, k .hold, k .front, k .rear, k .time, k .heard),
       omega (arith, k .heard),
+      omega (arith, stage-number-most (x .learner .stage), l .since, l .init, l .last, l .pressure, s .count, s .times, s .squares, s .pressures, s .products),
       omega (arith, o .cause),
       omega (arith, o .emergency),
       blocks-fit (x .consist .blocks) (x .consist .length) (x .consist .weight) (omega (arith, o .consist .ranged)) (omega (arith, o .consist .ranged))
@@ -126,7 +130,7 @@ module _ (m : Machine Session Verdict) (met : program.Meets m) where
   unfolding none
   program-begins =
       let zeros : Words 16 (none .lengths) = words-of 16 (none .lengths) (λ k. zero-at k 64) in
-      let fits : FitsWords noneOpen = (omega arith, omega arith, omega arith, omega arith, omega arith, record { count = omega arith; lengths-places = refl; lengths = zeros; weights-places = refl; weights = zeros }) in
+      let fits : FitsWords noneOpen = (omega arith, omega arith, omega arith, omega arith, omega arith, omega arith, record { count = omega arith; lengths-places = refl; lengths = zeros; weights-places = refl; weights = zeros }) in
       let e = session-one (m .none) noneOpen (met .none tt tt tt) in
       (subst FitsWords (sym e) fits, e)
 

@@ -20,6 +20,8 @@ use Rattle.prediction.specs.Prediction.{behind}
 use Rattle.update.specs.Rules.{updateOf}
 use Rattle.admission.specs.Table.{wrongTime}
 use Rattle.brake.specs.declared.Choice.{Choice}
+use Rattle.learn.specs.Suffices.{Suffices}
+use Rattle.learn.proofs.Suffices.{suffices}
 use Rattle.session.specs.declared.Session.{Session}
 use Rattle.session.specs.declared.Answer.{Answer}
 use Rattle.session.specs.Session.{isOpen}
@@ -28,7 +30,7 @@ use Rattle.sampling.specs.Sample.{sampleIn, prediction, causeAfter, emergencyAf
 use Rattle.sampling.specs.Laws.{Lent}
 use Rattle.sampling.proofs.Laws.{standing-stays}
 use Rattle.demands.specs.Machine.{Call, opening, sampling, Reply, call, ours}
-use Rattle.demands.specs.History.{Begun, brakes, callsIn, firstCall, causeIn, emergencyAt, emergencyCallsIn, emergencyIn, stopAt, decisionAt, wrongTimeAfter, rulesAt, Standing, nothing, since, verdictAt, next, outAt, sessionAt}
+use Rattle.demands.specs.History.{Begun, Course, courseOf, shownTo, callsIn, firstCall, causeIn, emergencyAt, emergencyCallsIn, emergencyIn, stopAt, decisionAt, wrongTimeAfter, rulesAt, Standing, nothing, since, verdictAt, next, outAt, sessionAt}
 use Rattle.demands.specs.Demand2.{CauseStays}
 use Rattle.demands.proofs.Carried.{accepted-open, sampled, sampled-is, none-refuses}
 
@@ -65,12 +67,12 @@ begun s choice = record { consist = consistIn s; choice = choice }
 
 opened-is : (st : Standing) (s : List ℕ) (choice : Choice) (v : Verdict) →
     openedBy (sessionAt st) (answer v (consistIn s)) choice ≡ record { session = sessionAt (kept v (since (begun s choice) []) st); verdict = v }
-unfolding brakes callsIn emergencyCallsIn firstCall
+unfolding courseOf callsIn emergencyCallsIn firstCall
 opened-is st s choice Accepted = refl
 opened-is st s choice (Refused r) = refl
 
 time-is : (c : Begun) (h : List Lent) (m : Sample) → wrongTime (sessionAt (since c h) .brake) m ≡ wrongTimeAfter h m
-unfolding wrongTime brakes updateOf
+unfolding wrongTime courseOf updateOf
 time-is c [] m = refl
 time-is c (l ∷ h) m = refl
 
@@ -82,36 +84,38 @@ module _ (c : Begun) (h : List Lent) (l : Lent) where
   m = sampleIn (l .sample)
 
   cause-is : causeAfter x m (l .profile) (l .targets) ≡ causeIn c (l ∷ h)
-  unfolding brakes callsIn causeAfter
+  unfolding courseOf callsIn causeAfter
   cause-is = sym (first-of-both (callsIn c h) _)
 
   -- what is called for, from the sample that calls the penalty on
   emergency-is : emergencyAfter x m (l .profile) (l .targets) ≡ emergencyIn c (l ∷ h)
-  unfolding brakes emergencyCallsIn causeAfter emergencyAfter
+  unfolding courseOf emergencyCallsIn causeAfter emergencyAfter
   emergency-is =
       ap (λ (n : ℕ). standing (emergencyIn c h) (behind n (emergencyCallOf (emergencyAt c h l) (l .targets)))) cause-is
       ∙ sym (first-of-both (emergencyCallsIn c h) _)
 
   pub decision-is : decisionOf x m (l .profile) (l .targets) ≡ decisionAt false c h l
-  unfolding brakes
+  unfolding courseOf
   decision-is = rw cause-is
 
   emergency-stop-is : prediction x m (l .profile) (l .targets) .«emergency_stop» ≡ stopAt true c h l
-  unfolding brakes causeAfter
+  unfolding courseOf causeAfter
   emergency-stop-is = ap (λ (n : ℕ). behind n (emergencyStop (emergencyAt c h l))) cause-is
 
   pub emergency-decision-is : emergencyDecisionOf x m (l .profile) (l .targets) ≡ decisionAt true c h l
-  unfolding brakes
+  unfolding courseOf
   emergency-decision-is = rw (emergency-is, emergency-stop-is)
 
   verdict-is : isOpen x ≡ true → lowest (rules x (l .sample) (l .profile) (l .targets) (l .out)) ≡ lowest (rulesAt c h l)
-  unfolding brakes
+  unfolding courseOf
   verdict-is o = passed _ _ _ (ap not o) ∙ rw (time-is c h m)
 
   answer-is : (v : Verdict) →
       sampled x l v ≡ record { told = v; state = sessionAt (kept v (since c (l ∷ h)) (since c h)); out = written v (bothBytes (decisionAt false c h l) (decisionAt true c h l)) (l .out) .1 }
-  unfolding brakes
-  answer-is Accepted = rw (cause-is, emergency-is, emergency-stop-is)
+  unfolding courseOf Suffices
+  answer-is Accepted =
+      let k : Course = courseOf c h in
+      rw (cause-is, emergency-is, emergency-stop-is, suffices (shownTo k m) (k .learning))
   answer-is (Refused r) = refl
 
 pub reply-is : (st : Standing) → Open st → (k : Call) → call ours (sessionAt st) k ≡ record { told = verdictAt st k; state = sessionAt (next st k); out = outAt st k }

@@ -24,7 +24,7 @@ use Rattle.admission.proofs.Admitted.{none-holds}
 use Rattle.sampling.specs.Sample.{sampleIn}
 use Rattle.sampling.specs.Laws.{Lent}
 use Rattle.demands.specs.Machine.{Call, opening, sampling}
-use Rattle.demands.specs.History.{Begun, brakes, wrongTimeAfter, rulesAt, Standing, nothing, since, next, standingAfter}
+use Rattle.demands.specs.History.{Begun, courseOf, brakes, wrongTimeAfter, rulesAt, Standing, nothing, since, next, standingAfter}
 use Rattle.demands.specs.Quiet.{Last, none-yet, value, lastWith, lastPresent, counted, heardIn, KeptIsLast, HeardIsLast}
 
 -- ---- the times of accepted samples
@@ -91,7 +91,7 @@ counted-kept Lost last time front pressure at e h =
 -- ---- a history
 
 pub heard-is-last : HeardIsLast
-unfolding HeardIsLast brakes lastPresent updateOf
+unfolding HeardIsLast courseOf lastPresent updateOf
 heard-is-last c [] = (refl, refl)
 heard-is-last c (l ∷ h) =
     let m = sampleIn (l .sample) in
@@ -100,7 +100,7 @@ heard-is-last c (l ∷ h) =
 
 -- the sample before is not later
 not-later : (c : Begun) (h : List Lent) (m : Sample) → wrongTimeAfter h m ≡ false → brakes c h .«last_time» ≤ m .time
-unfolding brakes updateOf
+unfolding courseOf updateOf
 not-later c [] m t = omega arith
 not-later c (l ∷ h) m t =
     let last = sampleIn (l .sample) .time in
@@ -113,14 +113,14 @@ module _ (c : Begun) (choice : c .choice ≡ FiveSeconds) where
   counts : (l : Lent) (h : List Lent) → Timely (l ∷ h) → Kept (brakes c h) (lastPresent h) →
       let m = sampleIn (l .sample) in
       brakes c (l ∷ h) .«last_rear» ≡ counted (m .rear) (lastPresent h) (m .time) (m .front)
-  unfolding HeardIsLast brakes updateOf readingOf
+  unfolding HeardIsLast courseOf updateOf readingOf
   counts l h t kept =
       let m = sampleIn (l .sample) in
       let (heard, same) = heard-is-last c h in
       rear-step (brakes c h) (m .time) (m .front) (same ∙ choice) (not-later c h m (t .0)) (m .rear) (lastPresent h) heard kept
 
   stays-kept : (h : List Lent) → Timely h → Kept (brakes c h) (lastPresent h)
-  unfolding brakes updateOf lastPresent
+  unfolding courseOf updateOf lastPresent
   stays-kept [] t pressure at e near = absurd (none-is-no-value pressure at e)
   stays-kept (l ∷ h) t pressure at e near =
       let m = sampleIn (l .sample) in

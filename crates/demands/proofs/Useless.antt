@@ -32,7 +32,8 @@ use Rattle.sampling.proofs.Accepted.{predictable}
 use Rattle.sampling.proofs.Admitted.{ready}
 use Rattle.sampling.proofs.Computing.{computing}
 use Rattle.demands.specs.Machine.{Call, opening, sampling, Slice, Lends, LendsEach, Reply, Machine, call, replies, after, ours, Holding, Unopened, Does, Accepts, Decides}
-use Rattle.demands.specs.History.{brakes, callsIn, emergencyCallsIn, firstCall, nothing, paperFrom}
+use Rattle.learn.specs.Learn.{lessonOf}
+use Rattle.demands.specs.History.{courseOf, callsIn, emergencyCallsIn, firstCall, nothing, paperFrom}
 use Rattle.demands.specs.Demand2.{telling, Demand-2}
 use Rattle.demands.specs.Case as case
 use Rattle.demands.specs.Useless.{stepAgain, walkAgain, stopAgain, stopBy, IsRefused, said, NotUseless, Walker, MeetsPredict, WalkRepeatsStep, WalkNotUseless}
@@ -101,7 +102,7 @@ record Case : Type 0 where
   stop-again : stopBy (second standing) ≡ 5048
 
 computed : Case
-unfolding computing stepAgain walkAgain stopAgain brakes callsIn emergencyCallsIn firstCall paperFrom
+unfolding computing stepAgain walkAgain stopAgain courseOf lessonOf callsIn emergencyCallsIn firstCall paperFrom
 computed = record { honest = refl; again = refl; read = refl; accepted = refl; stop = refl; stop-again = refl }
 
 -- ---- a machine

@@ -17,7 +17,7 @@ use Rattle.session.specs.Session.{noneOpen, isOpen}
 use Rattle.session.specs.Open.{openOf}
 use Rattle.sampling.specs.Sample.{sampleCall}
 use Rattle.held.specs.Held.{recordAt, readSession, writeSession}
-use Rattle.lent.specs.Lent.{openBytes, sampleBytes, isOpenBytes}
+use Rattle.lent.specs.Lent.{openBytes, sampleBytes, isOpenBytes, applicationBytes}
 use Rattle.writes.specs.Written.{writeManifest, sampleFields, sampleWritten}
 use Rattle.tells.specs.Judged.{decisionRead}
 use Rattle.buongilach.specs.Version.{version}
@@ -119,7 +119,7 @@ pub record Calls : Type 2 where
       (λ l (s, _). let (v, x) = readSession (recordAt (now s)) in record { verdict = v; session = x })
   pub stored-write : PublicCall stored.write.Statement.statement stored.write.Reads.Asked stored.write.Reads.Post
       (λ l (_, (out, _)). now out) (λ l (x, (out, _)). writeSession x (now out))
-  -- the session in lent bytes: an opening, a sample, the test
+  -- the session in lent bytes: an opening, a sample, the test, the time in force
   pub lent-open : PublicCall lent.open.Statement.statement lent.open.Reads.Asked lent.open.Reads.Post
       (λ l (session, _). now session) (λ l (session, (consist, (choice, _))). openBytes (now consist) (now session) choice)
   pub lent-sample : PublicCall lent.sample.Statement.statement lent.sample.Reads.Asked lent.sample.Reads.Post
@@ -127,6 +127,8 @@ pub record Calls : Type 2 where
       (λ l (session, (s, (p, (t, (decision, _))))). let (n, x, d) = sampleBytes (now session) (now s) (now p) (now t) (now decision) in (n, (x, d)))
   pub lent-is-open : PlainCall lent.is_open.Statement.statement lent.is_open.Reads.Asked lent.is_open.Reads.Post
       (λ l (session, _). isOpenBytes (now session))
+  pub lent-application : PlainCall lent.application.Statement.statement lent.application.Reads.Asked lent.application.Reads.Post
+      (λ l (session, _). applicationBytes (now session))
   -- each record from numbers, written; where the definition is one above, its verdict is told as a number
   pub writes-consist : PublicCall writes.consist.Statement.statement writes.consist.Reads.Asked writes.consist.Reads.Post
       (λ l (_, (_, (_, (_, (_, (_, (_, (_, (_, (out, _)))))))))). now out)
@@ -167,6 +169,9 @@ pub record Calls : Type 2 where
       (λ l (session, (s, (p, (t, (decision, _))))). let (n, x, d) = sampleBytes (now session) (now s) (now p) (now t) (now decision) in (n, (x, d)))
   pub buongilach-is-open : PlainCall library.buongilach_is_open.Statement.statement library.buongilach_is_open.Reads.Asked library.buongilach_is_open.Reads.Post
       (λ l (session, _). isOpenBytes (now session))
+  pub buongilach-application :
+      PlainCall library.buongilach_application.Statement.statement library.buongilach_application.Reads.Asked library.buongilach_application.Reads.Post
+      (λ l (session, _). applicationBytes (now session))
   -- the records, written, judged, and a decision read
   pub buongilach-write-consist :
       PublicCall records.buongilach_write_consist.Statement.statement records.buongilach_write_consist.Reads.Asked records.buongilach_write_consist.Reads.Post

@@ -37,7 +37,7 @@ module _ {S T : Type 0} (h : Holding S T) where
     pub record Demand-2 : Type 0 where
       -- what is told by every call of every run is the paper's: the verdict and each byte of the output
       pub told : (ks : List Call) → LendsEach ks → replies m (m .none) ks ≡ map telling (paperFrom nothing ks)
-      -- and the state after it holds the air brakes and the two causes of the history that stands
+      -- and the state after it holds the time in force, the air brakes, what is kept of learning, and the two causes of the history that stands
       pub history-held : (ks : List Call) → LendsEach ks → after m (m .none) ks ≡ stateAt (m .none) (standingAfter nothing ks)
       -- each record of a sample that is accepted then reads as the paper's decision, of the penalty and of emergency
       pub decision-read : (e : Bool) (ks : List Call) (l : Lent) → LendsEach ks → Lends (sampling l) →

@@ -21,6 +21,9 @@ use Rattle.brake.specs.declared.Brake.{Brake}
 use Rattle.brake.specs.State.{stateNumber}
 use Rattle.brake.specs.Brake.{atOpening}
 use Rattle.update.specs.Rules.{updateOf}
+use Rattle.learn.specs.declared.Shown.{Shown}
+use Rattle.learn.specs.Learn.{Learning, waiting, Lesson, lessonOf}
+use Rattle.learn.specs.Suffices.{keptOf}
 use Rattle.walk.specs.declared.Prediction.{Prediction}
 use Rattle.judge.specs.Approach.{Approach, predictionOf, callOf}
 use Rattle.judge.specs.Emergency.{Emergency, emergencyStop, emergencyCallOf}
@@ -28,6 +31,7 @@ use Rattle.admission.specs.Table.{linesOpen}
 use Rattle.prediction.specs.Prediction.{approachOf, emergencyOf, behind}
 use Rattle.session.specs.declared.Session.{Session}
 use Rattle.session.specs.Session.{noneOpen}
+use Rattle.sampling.specs.Learning.{shownOf, inForce}
 use Rattle.sampling.specs.Sample.{sampleIn, decidedWith}
 use Rattle.sampling.specs.Laws.{Lent}
 use Rattle.demands.specs.Machine.{Call, opening, sampling}
@@ -39,17 +43,42 @@ pub record Begun : Type 0 where
   -- R-7: "the old choice in the opening", or the default
   pub choice : Choice
 
--- ---- "The air brakes, once a sample"
+-- ---- "The air brakes, once a sample", and of R-3 the time in force
 
-unfoldable pub brakes : Begun → List Lent → Brake
-brakes c [] = atOpening (c .consist) (c .choice)
-brakes c (l ∷ h) = let m = sampleIn (l .sample) in updateOf (c .consist) (brakes c h) (m .time) (m .front) (m .rear)
+-- the consist with the time in force, the air brakes, and how far learning is, with its points
+pub record Course : Type 0 where
+  pub train : Consist
+  pub brake : Brake
+  pub learning : Learning
+
+-- what a sample makes of them: the update, then what it teaches; "The learnt time serves from the next sample."
+abbrev pub updated : Course → Sample → Brake
+updated k m = updateOf (k .train) (k .brake) (m .time) (m .front) (m .rear)
+
+abbrev pub shownTo : Course → Sample → Shown
+shownTo k m = shownOf (k .train) (updated k m) m
+
+abbrev pub taught : Course → Sample → Lesson
+taught k m = lessonOf (shownTo k m) (k .learning)
+
+abbrev pub coursed : Course → Sample → Course
+coursed k m = record { train = inForce (k .train) (taught k m .1); brake = updated k m; learning = taught k m .0 }
+
+unfoldable pub courseOf : Begun → List Lent → Course
+courseOf c [] = record { train = c .consist; brake = atOpening (c .consist) (c .choice); learning = waiting }
+courseOf c (l ∷ h) = coursed (courseOf c h) (sampleIn (l .sample))
+
+abbrev pub trainIn : Begun → List Lent → Consist
+trainIn c h = courseOf c h .train
+
+abbrev pub brakes : Begun → List Lent → Brake
+brakes c h = courseOf c h .brake
 
 -- ---- the prediction made of the sample l after the history h
 
--- "It starts after the update, with A, B and clock t = 0"
+-- "It starts after the update, with A, B and clock t = 0"; "Demands 2 and 3 read with the time in force", before what this sample teaches
 abbrev pub approachAt : Begun → List Lent → Lent → Approach
-approachAt c h l = approachOf (c .consist) (brakes c (l ∷ h)) (sampleIn (l .sample)) (l .profile)
+approachAt c h l = approachOf (trainIn c h) (brakes c (l ∷ h)) (sampleIn (l .sample)) (l .profile)
 
 abbrev pub predictionAt : Begun → List Lent → Lent → Prediction
 predictionAt c h l = predictionOf (approachAt c h l) (speedsIn (l .targets) most)
@@ -70,7 +99,7 @@ causeIn c h = firstCall (callsIn c h)
 -- ---- R-5: "From the sample that calls the penalty on, predict a stop by emergency air too"
 
 abbrev pub emergencyAt : Begun → List Lent → Lent → Emergency
-emergencyAt c h l = emergencyOf (c .consist) (brakes c (l ∷ h)) (sampleIn (l .sample)) (l .profile)
+emergencyAt c h l = emergencyOf (trainIn c h) (brakes c (l ∷ h)) (sampleIn (l .sample)) (l .profile)
 
 -- the calls of emergency, as those for the penalty; none before a penalty stands
 unfoldable pub emergencyCallsIn : Begun → List Lent → List ℕ
@@ -104,7 +133,7 @@ wrongTimeAfter (l ∷ h) m = let last = sampleIn (l .sample) .time in not (leb (
 -- the table, as far as a sample call uses it while a session is open
 abbrev pub rulesAt : Begun → List Lent → Lent → List Rule
 rulesAt c h l =
-    linesOpen (c .consist) (wrongTimeAfter h (sampleIn (l .sample))) (l .sample) (l .profile) (l .targets) (l .out)
+    linesOpen (trainIn c h) (wrongTimeAfter h (sampleIn (l .sample))) (l .sample) (l .profile) (l .targets) (l .out)
 
 -- ---- a run
 
@@ -131,10 +160,17 @@ outAt st (opening s choice) = []
 outAt nothing (sampling l) = l .out
 outAt (since c h) (sampling l) = written (lowest (rulesAt c h l)) (bothBytes (decisionAt false c h l) (decisionAt true c h l)) (l .out) .1
 
--- the session that holds what stands: the consist, the air brakes and the two causes after the history
+-- the session that holds what stands: the consist with the time in force, the air brakes, what is kept of learning, and the two causes after the history
 abbrev pub sessionAt : Standing → Session
 sessionAt nothing = noneOpen
-sessionAt (since c h) = record { opened = true; consist = c .consist; brake = brakes c h; cause = causeIn c h; emergency = emergencyIn c h }
+sessionAt (since c h) = record {
+  opened = true;
+  consist = trainIn c h;
+  brake = brakes c h;
+  learner = keptOf (courseOf c h .learning);
+  cause = causeIn c h;
+  emergency = emergencyIn c h;
+}
 
 -- what stands after calls
 unfoldable pub standingAfter : Standing → List Call → Standing

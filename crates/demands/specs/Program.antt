@@ -15,6 +15,7 @@ use Rattle.blocks.specs.Blocks.{most}
 use Rattle.consist.specs.Consist.{fieldsOf}
 use Rattle.brake.specs.Rear.{heardNumber}
 use Rattle.brake.specs.Brake.{brakeTold}
+use Rattle.learn.specs.Stage.{learnerTold}
 use Rattle.session.specs.declared.Session.{Session}
 use Rattle.session.specs.Session.{answer}
 use Rattle.sampling.specs.Laws.{Lent}
@@ -40,13 +41,14 @@ pub record FitsBlocks (b : Blocks) : Type 0 where
   pub weights-places : length (b .weights) ≡ most
   pub weights : Words 16 (b .weights)
 
--- each field fits its word: of the consist and of the brake in the order of `fieldsOf` and `brakeTold`, the time at which the rear was last present, the two
--- causes, and the consist's blocks
+-- each field fits its word: of the consist, of the brake and of the learner in the order of `fieldsOf`, `brakeTold` and `learnerTold`, the time at which the rear was
+-- last present, the two causes, and the consist's blocks
 abbrev pub FitsWords : Session → Type 0
 FitsWords x =
     Fit (16 ∷ 16 ∷ 16 ∷ 16 ∷ 32 ∷ 32 ∷ 16 ∷ 16 ∷ 16 ∷ []) (fieldsOf (x .consist))
     × Fit (8 ∷ 16 ∷ 16 ∷ 16 ∷ 16 ∷ 16 ∷ 16 ∷ 16 ∷ 32 ∷ 1 ∷ 1 ∷ 33 ∷ []) (brakeTold (x .brake))
     × (heardNumber (x .brake .heard) ≤ 2 ^ 32)
+    × Fit (8 ∷ 32 ∷ 16 ∷ 16 ∷ 16 ∷ 16 ∷ 32 ∷ 32 ∷ 32 ∷ 32 ∷ []) (learnerTold (x .learner))
     × (x .cause < 2 ^ 8)
     × (x .emergency < 2 ^ 8)
     × FitsBlocks (x .consist .blocks)

@@ -37,6 +37,7 @@ use Rattle.brake.proofs.StateNumbers.{number-most}
 use Rattle.brake.specs.Rear.{choiceNumber, choiceOf, heardNumber, heardOf}
 use Rattle.brake.proofs.Told.{state-back}
 use Rattle.brake.proofs.Rear.{choice-back, heard-back, choice-again, heard-again}
+use Rattle.learn.proofs.Stages.{stage-of-number, stage-number-most, number-of-stage}
 use Rattle.session.specs.declared.Session.{Session}
 use Rattle.session.specs.Session.{isOpen, noneOpen}
 use Rattle.session.proofs.Opened.{opened}
@@ -61,7 +62,7 @@ to-number (suc (suc (suc (suc (suc (suc n)))))) h = absurd (omega arith)
 of-fields : (x : Session) → isOpen x ≡ true → ofFields (fieldsOf x) (x .consist) ≡ x
 of-fields x h =
     let k = x .brake in
-    rw (state-back (k .state), of-bit (k .sampled), choice-back (k .choice), heard-back (k .heard), sym (opened x h .opened))
+    rw (state-back (k .state), of-bit (k .sampled), choice-back (k .choice), heard-back (k .heard), stage-of-number (x .learner .stage), sym (opened x h .opened))
 
 -- ---- the bytes of a session
 
@@ -69,7 +70,7 @@ of-fields x h =
 fields-at : (s : List ℕ) → Bytes s → length s ≡ size → fieldsAt s ≡ fieldsIn widths (take held.own s)
 fields-at s b l =
     let rest : length (drop held.own s) ≡ 20 = simp length-drop (omega (arith, l)) in
-    ap (take 15)
+    ap (take 25)
     (fields-from 0 (widths ++ eights 20) s tt (omega (arith, l))
     ∙ ap (fieldsIn (widths ++ eights 20)) (sym (take-append-drop held.own s))
     ∙ fields-append widths (eights 20) (take held.own s) (drop held.own s) (bytes-drop held.own s b) (λ i. total (eights (sym rest i))))
@@ -172,8 +173,8 @@ module _ (x : Session) where
     unfolding noFront
     a-front =
         rw front-seal
-        (subst (λ (fs : List ℕ). wrongMark (getD fs 0 0) || ltb 5 (getD fs 5 0) ≡ false) (sym front-fields)
-        (ap₂ _||_ (mark-right (b .count) (few x o)) (le-ltb 5 _ (number-most (x .brake .state)))))
+        (subst (λ (fs : List ℕ). wrongMark (getD fs 0 0) || ltb 5 (getD fs 5 0) || ltb 4 (getD fs 15 0) ≡ false) (sym front-fields)
+        (ap₂ _||_ (ap₂ _||_ (mark-right (b .count) (few x o)) (le-ltb 5 _ (number-most (x .brake .state)))) (le-ltb 4 _ (stage-number-most (x .learner .stage)))))
 
     a-record : noRecord (bytesOf x) ≡ false
     unfolding noRecord wrongLength
@@ -216,16 +217,19 @@ bytes-tell x y o p h = sym (stands x o) ∙ ap sessionIn h ∙ stands y p
 
 -- ---- the bits of what is accepted
 
--- the fields of a number that begins with this mark and has a state's number
-to-fields : (n : ℕ) (c : Consist) → (getD (split widths n) 0 0 ≡ markFor (c .blocks .count)) × (getD (split widths n) 5 0 ≤ 5)
-    → fieldsOf (ofFields (split widths n) c) ≡ split widths n
+-- fields that begin with this mark and have a state's number and a stage's
+abbrev Right : Consist → List ℕ → Type 0
+Right c fs = (getD fs 0 0 ≡ markFor (c .blocks .count)) × (getD fs 5 0 ≤ 5) × (getD fs 15 0 ≤ 4)
+
+to-fields : (n : ℕ) (c : Consist) → Right c (split widths n) → fieldsOf (ofFields (split widths n) c) ≡ split widths n
 to-fields n c h =
     let fs = split widths n in
     let sampled = to-bit (getD fs 3 0) (split-fit widths n .1 .1 .1 .0) in
     let choice = choice-again (getD fs 4 0) (split-fit widths n .1 .1 .1 .1 .0) in
     let state = to-number (getD fs 5 0) (h .1) in
     let heard = heard-again (getD fs 6 0) in
-    λ i. sym (h .0) i ∷ getD fs 1 0 ∷ getD fs 2 0 ∷ sampled i ∷ choice i ∷ state i ∷ heard i ∷ getD fs 7 0 ∷ getD fs 8 0 ∷ getD fs 9 0 ∷ getD fs 10 0 ∷ getD fs 11 0 ∷ getD fs 12 0 ∷ getD fs 13 0 ∷ getD fs 14 0 ∷ []
+    let stage = number-of-stage (getD fs 15 0) (h .2) in
+    λ i. sym (h .0) i ∷ getD fs 1 0 ∷ getD fs 2 0 ∷ sampled i ∷ choice i ∷ state i ∷ heard i ∷ getD fs 7 0 ∷ getD fs 8 0 ∷ getD fs 9 0 ∷ getD fs 10 0 ∷ getD fs 11 0 ∷ getD fs 12 0 ∷ getD fs 13 0 ∷ getD fs 14 0 ∷ stage i ∷ getD fs 16 0 ∷ getD fs 17 0 ∷ getD fs 18 0 ∷ getD fs 19 0 ∷ getD fs 20 0 ∷ getD fs 21 0 ∷ getD fs 22 0 ∷ getD fs 23 0 ∷ getD fs 24 0 ∷ []
 
 -- the consist stands in the front
 in-front : (s : List ℕ) → size ≤ length s → take 16 (drop held.own (take size s)) ≡ take 16 (drop held.own s)
@@ -276,7 +280,7 @@ module _ (s : List ℕ) (by : Bytes s) (r : IsRecord s) (right : isBroken s ≡ 
       (λ i. bytesFrom held.own widths (fieldsOf (ofFields (at i) c)))
       ∙ ap (bytesFrom held.own widths)
       (to-fields (num (take held.own f)) c
-      (subst (λ (fs : List ℕ). (getD fs 0 0 ≡ markFor (c .blocks .count)) × (getD fs 5 0 ≤ 5)) at (r .front .marked ∙ ap markFor (sym laid-many), r .front .state)))
+      (subst (Right c) at (r .front .marked ∙ ap markFor (sym laid-many), r .front .state, r .front .stage)))
       ∙ bytes-of-fields held.own widths refl (take held.own f) (bytes-take held.own f bf) k in
       let m : length (take 16 (consistAt s)) ≡ 16 = simp (length-take, length-drop) (omega (arith, r .long)) in
       let behind =

@@ -44,13 +44,13 @@ isComplete l t p = leb 4 (withPoint (l .sums) t p .count) && levelsOff (l .press
 unfoldable pub addedTo : Learner → Shown → (t p : ℕ) → Lesson
 addedTo l s t p =
     cond (isComplete l t p) (lesson (bare Done) (resultOf (l .init) (s .equalization) p (l .sums)))
-      (without (keptFalling (l .since) (l .init) t p (withPoint (l .sums) t p)))
+    (without (keptFalling (l .since) (l .init) t p (withPoint (l .sums) t p)))
 
 unfoldable pub furtherTo : Learner → Shown → ℕ → Lesson
 furtherTo l s p =
     cond (ltb p (l .pressure))
-      (cond (leb most (l .sums .count)) (without (bare Done)) (addedTo l s (timer s (l .since) - l .init) p))
-      (without l)
+    (cond (leb most (l .sums .count)) (without (bare Done)) (addedTo l s (timer s (l .since) - l .init) p))
+    (without l)
 
 unfoldable pub firstTo : Learner → Shown → ℕ → Lesson
 firstTo l s p =
@@ -76,12 +76,18 @@ unfoldable pub startedBy : Shown → RearPressure → Learner
 startedBy s (Present p) = keptInitial (s .time) p
 startedBy s Lost = keptFell (s .time)
 
+abbrev pub waitedIn : Shown → Learner
+waitedIn s = cond (isFrontDown s) (startedBy s (s .rear)) (bare Waiting)
+
+abbrev pub stayedIn : Shown → Learner
+stayedIn s = cond (isFrontDown s) (bare Done) (bare Waiting)
+
 unfoldable pub inStage : Stage → Learner → Shown → Lesson
-inStage Waiting l s = without (cond (isFrontDown s) (startedBy s (s .rear)) (bare Waiting))
+inStage Waiting l s = without (waitedIn s)
 inStage FrontFell l s = timedTo l s
 inStage Initial l s = timedTo l s
 inStage Falling l s = timedTo l s
-inStage Done l s = without (cond (isFrontDown s) (bare Done) (bare Waiting))
+inStage Done l s = without (stayedIn s)
 
 unfoldable pub taughtOf : Learner → Shown → Lesson
 taughtOf l s = cond (s .service) (inStage (l .stage) l s) (without (bare Waiting))

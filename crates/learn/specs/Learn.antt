@@ -68,8 +68,8 @@ added s since init x last before =
 abbrev pub further : Shown → (since init : ℕ) → Point → List Point → ℕ → Lesson
 further s since init last before p =
     cond (ltb p (last .p))
-      (cond (leb most (length (last ∷ before))) (without done) (added s since init (record { t = timer s since - init; p = p }) last before))
-      (without (falling since init last before))
+    (cond (leb most (length (last ∷ before))) (without done) (added s since init (record { t = timer s since - init; p = p }) last before))
+    (without (falling since init last before))
 
 -- (7) "the time on the timer is recorded as t_INIT, and the timer is reset to zero": the first point is (0, p)
 abbrev pub first : Shown → (since p0 : ℕ) → ℕ → Lesson

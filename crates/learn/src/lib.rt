@@ -7,7 +7,7 @@ ghost use Prim.Native.Nat.{_<_};
 ghost use Rattle.learn.specs.Stage.{stageNumber, stageOf, bare, isAtOpening};
 ghost use Rattle.learn.specs.Sound.{Sound, isSound};
 ghost use Rattle.learn.specs.Learn.{isFrontDown, timer};
-ghost use Rattle.learn.specs.Kept.{without, keptFalling, addedTo, furtherTo, firstTo, heardIn, timedTo, startedBy, taughtOf};
+ghost use Rattle.learn.specs.Kept.{without, keptFalling, addedTo, furtherTo, firstTo, heardIn, timedTo, startedBy, waitedIn, stayedIn, taughtOf};
 
 pub enum Stage {
     Waiting,
@@ -280,6 +280,26 @@ fn started(s: Shown) -> Learner
     }
 }
 
+// Waiting: the front fell now, or not yet.
+fn waited(s: Shown) -> Learner
+    ensures { λ r. ⌜ r ≡ waitedIn s ⌝ }
+{
+    if is_front_down(s) {
+        return started(s);
+    }
+    Learner::bare(Stage::Waiting)
+}
+
+// Done: until the front is up again.
+fn stayed(s: Shown) -> Learner
+    ensures { λ r. ⌜ r ≡ stayedIn s ⌝ }
+{
+    if is_front_down(s) {
+        return Learner::bare(Stage::Done);
+    }
+    Learner::bare(Stage::Waiting)
+}
+
 // What an accepted sample teaches.
 pub fn taught(l: Learner, s: Shown) -> Lesson
     requires { ⌜ Sound l ⌝ }
@@ -288,13 +308,12 @@ pub fn taught(l: Learner, s: Shown) -> Lesson
     if !s.service {
         return without(Learner::bare(Stage::Waiting));
     }
-    let down = is_front_down(s);
     let stage = l.stage;
     match stage {
-        Stage::Waiting => without(if down { started(s) } else { Learner::bare(Stage::Waiting) }),
+        Stage::Waiting => without(waited(s)),
         Stage::FrontFell => timed(l, s),
         Stage::Initial => timed(l, s),
         Stage::Falling => timed(l, s),
-        Stage::Done => without(Learner::bare(if down { Stage::Done } else { Stage::Waiting })),
+        Stage::Done => without(stayed(s)),
     }
 }

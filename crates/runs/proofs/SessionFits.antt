@@ -36,6 +36,15 @@ use Rattle.brake.proofs.State as state-type
 use Rattle.brake.proofs.State.Laws as state-value
 use Rattle.brake.proofs.Brake as brake-type
 use Rattle.brake.proofs.Brake.Laws as brake-value
+use Rattle.trend.proofs.Sums as sums-type
+use Rattle.trend.proofs.Sums.Laws as sums-value
+use Rattle.learn.specs.declared.Stage.{Stage}
+use Rattle.learn.specs.declared.Stage.the-variants.{Waiting, FrontFell, Initial, Falling, Done}
+use Rattle.learn.specs.Stage.{stageNumber}
+use Rattle.learn.proofs.Stage as stage-type
+use Rattle.learn.proofs.Stage.Laws as stage-value
+use Rattle.learn.proofs.Learner as learner-type
+use Rattle.learn.proofs.Learner.Laws as learner-value
 use Rattle.session.specs.declared.Session.{Session}
 use Rattle.session.proofs.Session as session-type
 use Rattle.session.proofs.Session.Laws as session-value
@@ -48,6 +57,13 @@ state-is HoldingService = enum.owes state-type.the-type state-value.the-laws Hol
 state-is ApplyingEmergency = enum.owes state-type.the-type state-value.the-laws ApplyingEmergency tt
 state-is HoldingEmergency = enum.owes state-type.the-type state-value.the-laws HoldingEmergency tt
 state-is Charging = enum.owes state-type.the-type state-value.the-laws Charging tt
+
+stage-is : (s : Stage) → Is stage-type.the-row s (enum.vals stage-type.the-type stage-value.the-laws s)
+stage-is Waiting = enum.owes stage-type.the-type stage-value.the-laws Waiting tt
+stage-is FrontFell = enum.owes stage-type.the-type stage-value.the-laws FrontFell tt
+stage-is Initial = enum.owes stage-type.the-type stage-value.the-laws Initial tt
+stage-is Falling = enum.owes stage-type.the-type stage-value.the-laws Falling tt
+stage-is Done = enum.owes stage-type.the-type stage-value.the-laws Done tt
 
 choice-held : (choice : Choice) → Is choice-type.the-row choice (enum.vals choice-type.the-type choice-value.the-laws choice)
 choice-held FiveSeconds = enum.owes choice-type.the-type choice-value.the-laws FiveSeconds tt
@@ -110,14 +126,18 @@ pub session-is : (x : Session) → FitsWords x → Is session-type.the-row x (se
 session-is x f =
     let (c₀, (c₁, (c₂, (c₃, (c₄, (c₅, (c₆, (c₇, (c₈, _))))))))) = f .0 in
     let b = x .consist .blocks in
-    let g = f .5 in
+    let g = f .6 in
     let blocks = owes blocks-type.the-type blocks-value.the-laws b
     (uint w8 (g .count) ⨾ array-is most (b .lengths) (g .lengths-places) (g .lengths) ⨾ array-is most (b .weights) (g .weights-places) (g .weights) ⨾ end) in
     let (_, (k₁, (k₂, (k₃, (k₄, (k₅, (k₆, (k₇, (k₈, _))))))))) = f .1 in
     let consist = uint w16 c₀ ⨾ uint w16 c₁ ⨾ uint w16 c₂ ⨾ uint w16 c₃ ⨾ uint w32 c₄ ⨾ uint w32 c₅ ⨾ uint w16 c₆ ⨾ uint w16 c₇ ⨾ uint w16 c₈ ⨾ blocks ⨾ end in
     let brake = uint w16 k₁ ⨾ uint w16 k₂ ⨾ uint w16 k₃ ⨾ uint w16 k₄ ⨾ uint w16 k₅ ⨾ uint w16 k₆ ⨾ uint w16 k₇ ⨾ uint w32 k₈ ⨾ bool (x .brake .sampled) ⨾ choice-held (x .brake .choice) ⨾ heard-is (x .brake .heard) (f .2) ⨾ end in
+    let (_, (l₁, (l₂, (l₃, (l₄, (s₀, (s₁, (s₂, (s₃, (s₄, _)))))))))) = f .3 in
+    let sums = owes sums-type.the-type sums-value.the-laws (x .learner .sums) (uint w16 s₀ ⨾ uint w32 s₁ ⨾ uint w32 s₂ ⨾ uint w32 s₃ ⨾ uint w32 s₄ ⨾ end) in
+    let learner = stage-is (x .learner .stage) ⨾ uint w32 l₁ ⨾ uint w16 l₂ ⨾ uint w16 l₃ ⨾ uint w16 l₄ ⨾ sums ⨾ end in
     let fields = bool (x .opened) ⨾ owes consist-type.the-type consist-value.the-laws (x .consist) consist
-    ⨾ owes brake-type.the-type brake-value.the-laws (x .brake) (state-is (x .brake .state), brake) ⨾ uint w8 (f .3) ⨾ uint w8 (f .4) ⨾ end in
+    ⨾ owes brake-type.the-type brake-value.the-laws (x .brake) (state-is (x .brake .state), brake)
+    ⨾ owes learner-type.the-type learner-value.the-laws (x .learner) learner ⨾ uint w8 (f .4) ⨾ uint w8 (f .5) ⨾ end in
     let is = owes session-type.the-type session-value.the-laws x fields in
     subst (λ (us : List Val). Is session-type.the-row x us) (session-value.lowers .val-is x _ is) is
 
@@ -128,6 +148,13 @@ state-fits HoldingService = lit< tt
 state-fits ApplyingEmergency = lit< tt
 state-fits HoldingEmergency = lit< tt
 state-fits Charging = lit< tt
+
+stage-fits : (s : Stage) → stageNumber s < 2 ^ 8
+stage-fits Waiting = lit< tt
+stage-fits FrontFell = lit< tt
+stage-fits Initial = lit< tt
+stage-fits Falling = lit< tt
+stage-fits Done = lit< tt
 
 bit-fits : (b : Bool) → bit b < 2 ^ 1
 bit-fits false = lit< tt
@@ -146,13 +173,16 @@ heard-fits heard vs is = omega (arith, heard-most heard vs is)
 
 pub session-fits : (x : Session) (v : Val) → Is session-type.the-row x (v ∷ []) → FitsWords x
 session-fits x v is =
-    let (_, (consist, (brake, (cause, (emergency, _))))) = owed session-type.the-type session-value.the-laws x (v ∷ []) is in
+    let (_, (consist, (brake, (learner, (cause, (emergency, _)))))) = owed session-type.the-type session-value.the-laws x (v ∷ []) is in
     let (c₀, (c₁, (c₂, (c₃, (c₄, (c₅, (c₆, (c₇, (c₈, (blocks, _)))))))))) = owed consist-type.the-type consist-value.the-laws (x .consist) _ consist in
     let (n, (lengths, (weights, _))) = owed blocks-type.the-type blocks-value.the-laws (x .consist .blocks) _ blocks in
-    let (_, (k₁, (k₂, (k₃, (k₄, (k₅, (k₆, (k₇, (k₈, (_, (_, (heard, _)))))))))))) = owed brake-type.the-type brake-value.the-laws (x .brake) _ brake in (
+    let (_, (k₁, (k₂, (k₃, (k₄, (k₅, (k₆, (k₇, (k₈, (_, (_, (heard, _)))))))))))) = owed brake-type.the-type brake-value.the-laws (x .brake) _ brake in
+    let (_, (l₁, (l₂, (l₃, (l₄, (sums, _)))))) = owed learner-type.the-type learner-value.the-laws (x .learner) _ learner in
+    let (s₀, (s₁, (s₂, (s₃, (s₄, _))))) = owed sums-type.the-type sums-value.the-laws (x .learner .sums) _ sums in (
       c₀ .1 ⨾ c₁ .1 ⨾ c₂ .1 ⨾ c₃ .1 ⨾ c₄ .1 ⨾ c₅ .1 ⨾ c₆ .1 ⨾ c₇ .1 ⨾ c₈ .1 ⨾ tt,
       state-fits (x .brake .state) ⨾ k₁ .1 ⨾ k₂ .1 ⨾ k₃ .1 ⨾ k₄ .1 ⨾ k₅ .1 ⨾ k₆ .1 ⨾ k₇ .1 ⨾ k₈ .1 ⨾ bit-fits (x .brake .sampled) ⨾ choice-fits (x .brake .choice) ⨾ heard-fits (x .brake .heard) _ heard ⨾ tt,
       heard-most (x .brake .heard) _ heard,
+      stage-fits (x .learner .stage) ⨾ l₁ .1 ⨾ l₂ .1 ⨾ l₃ .1 ⨾ l₄ .1 ⨾ s₀ .1 ⨾ s₁ .1 ⨾ s₂ .1 ⨾ s₃ .1 ⨾ s₄ .1 ⨾ tt,
       cause .1,
       emergency .1,
       record {

@@ -27,6 +27,10 @@ use Rattle.brake.specs.Rear.{choiceNumber, heardNumber}
 use Rattle.brake.proofs.Choice.Laws as choice-value
 use Rattle.brake.proofs.Heard.Laws as heard-value
 use Rattle.brake.proofs.State.Laws as state-value
+use Rattle.learn.specs.declared.Stage.{Stage}
+use Rattle.learn.specs.declared.Stage.the-variants.{Waiting, FrontFell, Initial, Falling, Done}
+use Rattle.learn.specs.Stage.{stageNumber}
+use Rattle.learn.proofs.Stage.Laws as stage-value
 use Rattle.session.specs.declared.Session.{Session}
 use Rattle.session.specs.declared.Answer.{Answer}
 use Rattle.session.specs.Session.{Told, sessionTold, answerTold}
@@ -90,7 +94,9 @@ pub sessionIn : Val → Told
 sessionIn v =
     let c : ℕ → ℕ = λ i. number (part (part v 1) i) in
     let b : Val = part (part v 1) 9 in
-    let k : ℕ → ℕ = λ i. number (part (part v 2) i) in (
+    let k : ℕ → ℕ = λ i. number (part (part v 2) i) in
+    let l : ℕ → ℕ = λ i. number (part (part v 3) i) in
+    let s : ℕ → ℕ = λ i. number (part (part (part v 3) 5) i) in (
       truth (part v 0),
       record {
         cars = c 0;
@@ -105,8 +111,9 @@ sessionIn v =
         blocks = record { count = number (part b 0); lengths = arrayIn (part b 1); weights = arrayIn (part b 2) };
       },
       number (part (part (part v 2) 0) 0) ∷ k 1 ∷ k 2 ∷ k 3 ∷ k 4 ∷ k 5 ∷ k 6 ∷ k 7 ∷ k 8 ∷ bit (truth (part (part v 2) 9)) ∷ number (part (part (part v 2) 10) 0) ∷ heardIn (part (part v 2) 11) ∷ [],
-      number (part v 3),
+      number (part (part (part v 3) 0) 0) ∷ l 1 ∷ l 2 ∷ l 3 ∷ l 4 ∷ s 0 ∷ s 1 ∷ s 2 ∷ s 3 ∷ s 4 ∷ [],
       number (part v 4),
+      number (part v 5),
     )
 
 -- a consist with as many blocks, of these lengths and weights
@@ -128,14 +135,17 @@ pub session-read : (x : Session) → sessionIn (session-value.lowered x) ≡ ses
 unfolding part number truth heardIn sessionIn
 session-read x =
     let k = x .brake in
-    let told : ℕ → ℕ → ℕ → List ℕ → List ℕ → Told = λ n c h ls ws. (
+    let l = x .learner in
+    let s = l .sums in
+    let told : ℕ → ℕ → ℕ → ℕ → List ℕ → List ℕ → Told = λ n c h g ls ws. (
       x .opened,
       withLists (x .consist) ls ws,
       n ∷ k .hold ∷ k .a ∷ k .b ∷ k .equalization ∷ k .fall ∷ k .«last_front» ∷ k .«last_rear» ∷ k .«last_time» ∷ bit (k .sampled) ∷ c ∷ h ∷ [],
+      g ∷ l .since ∷ l .init ∷ l .last ∷ l .pressure ∷ s .count ∷ s .times ∷ s .squares ∷ s .pressures ∷ s .products ∷ [],
       x .cause,
       x .emergency,
     ) in
-    (λ i. told (state-read (k .state) i) (choice-read (k .choice) i) (heard-read (k .heard) i) (array-read (x .consist .blocks .lengths) i) (array-read (x .consist .blocks .weights) i))
+    (λ i. told (state-read (k .state) i) (choice-read (k .choice) i) (heard-read (k .heard) i) (stage-read (l .stage) i) (array-read (x .consist .blocks .lengths) i) (array-read (x .consist .blocks .weights) i))
   where
     state-read : (s : State) → number (part (state-value.lowered s) 0) ≡ stateNumber s
     state-read Charged = refl
@@ -144,6 +154,13 @@ session-read x =
     state-read ApplyingEmergency = refl
     state-read HoldingEmergency = refl
     state-read Charging = refl
+
+    stage-read : (s : Stage) → number (part (stage-value.lowered s) 0) ≡ stageNumber s
+    stage-read Waiting = refl
+    stage-read FrontFell = refl
+    stage-read Initial = refl
+    stage-read Falling = refl
+    stage-read Done = refl
 
     choice-read : (choice : Choice) → number (part (choice-value.lowered choice) 0) ≡ choiceNumber choice
     choice-read FiveSeconds = refl

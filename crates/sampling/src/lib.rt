@@ -90,7 +90,7 @@ fn in_force(c: Consist, learnt: Learnt) -> Consist
     }
 }
 
-// The update, the prediction, the standing penalty and emergency, the two decisions, and what the sample teaches.
+// The update, what the sample teaches, the prediction, the standing penalty and emergency, the two decisions.
 fn advance(x: Session, m: Sample, p: &[u8], t: &[u8]) -> After
     requires ready { ⌜ Ready (x .consist) (x .brake) m (now p) ⌝ }
     requires learner { ⌜ Sound (x .learner) ⌝ }
@@ -100,6 +100,12 @@ fn advance(x: Session, m: Sample, p: &[u8], t: &[u8]) -> After
     let held = x.brake;
     let rear = m.rear;
     let updated = update::updated(held, c, m.time, m.front, rear);
+    let l = x.learner;
+    let lesson = learn::taught(l, shown(c, updated, m));
+    let learnt = lesson.learnt;
+    let learner = lesson.learner;
+    // from the next sample on: this one is predicted with the time that was in force
+    let consist = in_force(c, learnt);
     let found = prediction::of_sample(c, updated, m, p, t, x.cause);
     let cause = judge::standing(x.cause, found.called);
     let called = judge::standing(x.emergency, found.emergency_called);
@@ -107,11 +113,6 @@ fn advance(x: Session, m: Sample, p: &[u8], t: &[u8]) -> After
     let number = brake::state_number(state);
     let decision = decided(false, m.time, number, cause, found.stop);
     let emergency = decided(true, m.time, number, called, found.emergency_stop);
-    let l = x.learner;
-    let lesson = learn::taught(l, shown(c, updated, m));
-    let learnt = lesson.learnt;
-    let learner = lesson.learner;
-    let consist = in_force(c, learnt);
     let session = Session {
         opened: true,
         consist,

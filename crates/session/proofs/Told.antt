@@ -6,7 +6,7 @@ use Rattle.refusal.proofs.Numbers.{told-one}
 use Rattle.brake.specs.declared.Brake.{Brake}
 use Rattle.brake.proofs.Told.{brake-one}
 use Rattle.learn.specs.declared.Learner.{Learner}
-use Rattle.learn.proofs.Told.{learner-one}
+use Rattle.learn.proofs.Stages.{learner-one}
 use Rattle.session.specs.declared.Session.{Session}
 use Rattle.session.specs.declared.Answer.{Answer}
 use Rattle.session.specs.Session.{Told, sessionTold, answer, answerTold, callTold}
