@@ -12,15 +12,16 @@ from feeds import random_feed
 
 FLAGS = ["-DSECOND_NO_MAIN", "-I" + os.path.join(ROOT, "include")]
 HEADER = os.path.join(ROOT, "include", "buongilach.h")
-STANDIN = [os.path.join(ROOT, "tests", name) for name in ("standin.c", "standin_consists.c", "standin_rears.c",
-                                                                 "standin_sessions.c")]
+STANDIN = [os.path.join(ROOT, "tests", name) for name in ("standin.c", "standin_consists.c", "standin_learning.c",
+                                                          "standin_rears.c", "standin_sessions.c")]
 MANIFEST = os.path.join(ROOT, "tests", "manifest.c")
 QUIET = os.path.join(ROOT, "tests", "quiet.c")
 HOSTILE = sorted(os.path.join(EXAMPLES, "hostile", name) for name in os.listdir(os.path.join(EXAMPLES, "hostile"))
                  if name.endswith(".c"))
 # The stand-in takes its answers from the rules that hostile expects.
-EXPECTED = [os.path.join(EXAMPLES, "hostile", name) for name in ("expected.c", "expected_consist.c", "expected_held.c")]
-SESSION_BYTES = 304
+EXPECTED = [os.path.join(EXAMPLES, "hostile", name) for name in ("expected.c", "expected_consist.c", "expected_held.c",
+                                                                 "expected_learning.c")]
+SESSION_BYTES = 326
 
 
 def build(name, *sources):
@@ -117,10 +118,10 @@ class Examples(unittest.TestCase):
         standin = built.library("standin.so", *FLAGS, *STANDIN, *EXPECTED, built.SECOND)
         records = [bytes.fromhex(words) for words in re.findall(
             r"^\| (?:manifest, the )?(?:consist|session)[^|]*\| `([0-9A-F ]+)` \|$", page("RECORDS.md"), re.M)]
-        self.assertEqual([len(each) for each in records], [16, 44, 24, 56])
+        self.assertEqual([len(each) for each in records], [16, 66, 24, 78])
         for consist, session in (records[:2], records[2:]):
-            room = ctypes.create_string_buffer(b"\xa5" * 313, 313)
-            self.assertEqual(standin.buongilach_open(room, ctypes.c_size_t(313), consist, ctypes.c_size_t(len(consist))), 0)
+            room = ctypes.create_string_buffer(b"\xa5" * 335, 335)
+            self.assertEqual(standin.buongilach_open(room, ctypes.c_size_t(335), consist, ctypes.c_size_t(len(consist))), 0)
             self.assertEqual(room.raw, session.ljust(SESSION_BYTES, b"\0") + b"\xa5" * 9)
 
 
