@@ -14,6 +14,7 @@ FLAGS = ["-DSECOND_NO_MAIN", "-I" + os.path.join(ROOT, "include")]
 HEADER = os.path.join(ROOT, "include", "buongilach.h")
 STANDIN = [os.path.join(ROOT, "tests", name) for name in ("standin.c", "standin_consists.c", "standin_learning.c",
                                                           "standin_rears.c", "standin_sessions.c")]
+LEARNT = os.path.join(ROOT, "tests", "learnt.c")
 MANIFEST = os.path.join(ROOT, "tests", "manifest.c")
 QUIET = os.path.join(ROOT, "tests", "quiet.c")
 HOSTILE = sorted(os.path.join(EXAMPLES, "hostile", name) for name in os.listdir(os.path.join(EXAMPLES, "hostile"))
@@ -112,6 +113,12 @@ class Examples(unittest.TestCase):
         """The default still charges, where the value that is kept for ever has charged."""
         self.assertEqual(shown("quiet", "A rear device that goes quiet", QUIET),
                          b"14 5 0 0 5000\n14 5 0 0 0\n14 0 0 0 5000\n14 0 0 0 0\n")
+
+    def test_the_page_shows_the_learnt_time(self):
+        """Its lines write it down when it is learnt, and not again."""
+        told = shown("learnt", "The application time is learnt", LEARNT).decode().split("\n")
+        self.assertEqual([line for line in told if "ms" in line], ["0: application time 30000 ms", "7: application time 10696 ms"])
+        self.assertIn("10696 ms", section_of("The application time is learnt"))
 
     def test_the_paper_has_the_sessions_just_opened(self):
         """docs/RECORDS.md shows the bytes that an opening leaves, without blocks and with."""

@@ -149,8 +149,8 @@ int main(int count, char **words)
     unsigned long long seed = count > 1 ? strtoull(words[1], NULL, 10) : 1;
     unsigned long times = count > 2 ? strtoul(words[2], NULL, 10) : 1;
     /* the longest last: a fault that another finds is found soon */
-    void (*const runs[])(void) = {run_consists, run_trips,  run_lessons, run_silences, run_runaways, run_hills,
-                                  run_boards,   run_records, run_sizes,   run_noise,    run_flips};
+    void (*const runs[])(void) = {run_consists, run_trips,   run_silences, run_lessons, run_runaways, run_hills,
+                                  run_boards,   run_records, run_sizes,    run_noise,   run_flips};
     calls_make();
     try_version();
     for (unsigned long i = 0; i < times; i++) {

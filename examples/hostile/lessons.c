@@ -9,7 +9,7 @@
 #include <stdio.h>
 #include <string.h>
 
-enum { LESSONS = 240, THREE_PSI = 300, LONGEST_LESSON = 700 };
+enum { LESSONS = 150, THREE_PSI = 300, LONGEST_LESSON = 700 };
 
 /* A service application as the train's two ends show it, in hundredths of a psi. */
 typedef struct {
@@ -134,8 +134,6 @@ static void teach_any(trip *t)
     unsigned long before = tried.taught[0] + tried.taught[1];
     for (int i = 0; i < 3; i++) {
         lesson l = any_lesson(t);
-        if (made_once_in(6))
-            l.delay = LONGEST_LESSON;
         if (!apply(t, &l, !made_once_in(4)) || (!made_once_in(5) && !hold_on(t, &l, 0)))
             return;
         trip_readings(t, l.low, true, l.last);
@@ -162,17 +160,17 @@ static void teach_too_many(trip *t)
         hold_on(t, &l, 1);
 }
 
-/* Two falls of 17 parts in two seconds and one of 7 in the third: the last slope is half of the line's, to the fraction. */
+/* Two falls of 17 parts in two seconds and one of 7 in the third: the last slope is half of the line's, to the fraction, or just
+ * less. The last point is mostly about where a first application equalizes, or there. */
 static void teach_half(trip *t)
 {
-    uint32_t part = 1 + made_below(30), short_of = made_below(2), set = set_of(t), rear = set - THREE_PSI;
+    uint32_t part = 1 + made_below(30), short_of = made_below(2), set = set_of(t), last = 5 * set / 7 + made_below(3) - 1;
+    uint32_t rear = made_once_in(4) ? set - THREE_PSI : last + 41 * part - short_of;
     const uint32_t rears[] = {rear, rear - 17 * part, rear - 34 * part, rear - 41 * part + short_of};
-    lesson l = {set, set - 1000, set, 0, 0, 0};
-    trip_readings(t, set, true, set);
-    if (!trip_offer(t, 1) || !show(t, l.low, true, set, 1))
+    if (!show(t, set, true, rear + THREE_PSI, 1) || !show(t, set - 1000, true, rear + THREE_PSI, 1))
         return;
     for (size_t i = 0; i < sizeof rears / sizeof *rears; i++)
-        if (!show(t, l.low, true, rears[i], 1))
+        if (!show(t, set - 1000, true, rears[i], 1))
             return;
     waited_at_half += !short_of && stage_of(t) == SECOND_REAR_FALLS;
     ended_below_half += short_of && stage_of(t) == SECOND_DONE;
@@ -183,9 +181,9 @@ void run_lessons(void)
     static void (*const kinds[])(trip *) = {teach_any, teach_any, teach_any, teach_any, teach_half, teach_too_long};
     static trip t;
     for (int i = 0; i < LESSONS; i++) {
-        trip_begin(&t, 2 * SLOW, i % 3 == 0 ? NO_BLOCKS : FEW_BLOCKS);
+        trip_begin(&t, SLOW, i % 3 == 0 ? FEW_BLOCKS : NO_BLOCKS);
         kinds[i % (int)(sizeof kinds / sizeof *kinds)](&t);
-        if (i % 40 == 0) {
+        if (i % 50 == 0) {
             trip_begin(&t, SLOW, NO_BLOCKS);
             teach_too_many(&t);
         }
