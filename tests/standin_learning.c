@@ -15,12 +15,12 @@ typedef struct {
 
 static shown shown_by(const uint8_t *next, part sample)
 {
-    return (shown){second_bits(next, 26, 5),
-                   second_bits(next, 104, 16),
+    return (shown){second_bits(next, EXPECTED_STATE, 5),
+                   second_bits(next, EXPECTED_EQUALIZATION, 16),
                    second_bits(next, EXPECTED_CONSIST + 102, 14),
                    second_bits(next, EXPECTED_LAST_TIME, 24),
-                   second_bits(next, 136, 16),
-                   second_bits(next, 152, 16),
+                   second_bits(next, EXPECTED_LAST_FRONT, 16),
+                   second_bits(next, EXPECTED_LAST_REAR, 16),
                    second_bits(sample.bytes, 32, 1) == 1 || planted("sample: a lost rear teaches what it counts as")};
 }
 
@@ -186,7 +186,7 @@ void learn(uint8_t *next, const uint8_t *before, part sample)
     int64_t in_force = application_in(before);
     int64_t taught = planted("sample: nothing is learnt") ? in_force : taught_by(&l, &now, in_force);
     if (planted("sample: the held fall renewed") && taught != in_force)
-        second_put_bits(next, 120, 16, 2000 * now.set / (7 * taught));
+        second_put_bits(next, EXPECTED_FALL, 16, 2000 * now.set / (7 * taught));
     expected_put_learning(next, &l);
     put_application(next, taught);
 }

@@ -152,8 +152,8 @@ static void rearrange(expected_session *held)
         held->consist_bytes = BUONGILACH_CONSIST_BYTES;
 }
 
-/* What is due of a sample, by a library that lets the blocks lie otherwise, counts a lost rear otherwise or learns otherwise; what it
- * holds of the first two stays. */
+/* What is due of a sample, by a library that lets the blocks lie otherwise, counts a lost rear otherwise or learns otherwise; what
+ * it holds of the first two stays. */
 static unsigned due_of(part session, part sample, part profile, part targets, size_t room, uint8_t *next, uint8_t *decisions)
 {
     expected_session was, now;
@@ -234,7 +234,7 @@ uint8_t buongilach_sample(uint8_t *session, size_t session_bytes, const uint8_t 
     if (planted("sample: decision written when refused") && answer == 9)
         memset(decision, 0x44, decision_bytes);
     if (planted("sample: the last rear lost") && answer == 0) {
-        second_put_bits(next, 152, 16, 0);
+        second_put_bits(next, EXPECTED_LAST_REAR, 16, 0);
         expected_seal(next);
     }
     if (planted("sample: the session stays") && answer == 0)

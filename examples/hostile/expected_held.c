@@ -11,8 +11,9 @@ enum { NO_BLOCKS = 0x55, MOST_PRESSURE = 16000, MOST_B = 9434, MOST_FALL = 3142,
  * equalization, fall, last front, last rear and last time. What is learnt follows at byte 24, the consist's 16 bytes at byte 46,
  * their check word at byte 62, and where there are blocks these at byte 66, with a check word of their own behind them. */
 enum { FIELDS = 16, HELD_CONSIST = EXPECTED_CONSIST / 8, HELD_CHECK = 62, CHECK_BYTES = 4 };
-static const int held_at[FIELDS] = {0, 8, 16, 20, EXPECTED_SAMPLED, EXPECTED_CHOICE, 26, EXPECTED_HEARD, 56, 72, 88, 104, 120, 136,
-                                    152, EXPECTED_LAST_TIME};
+static const int held_at[FIELDS] = {0, 8, 16, 20, EXPECTED_SAMPLED, EXPECTED_CHOICE, EXPECTED_STATE, EXPECTED_HEARD, 56, 72, 88,
+                                    EXPECTED_EQUALIZATION, EXPECTED_FALL, EXPECTED_LAST_FRONT, EXPECTED_LAST_REAR,
+                                    EXPECTED_LAST_TIME};
 static const int held_width[FIELDS] = {8, 8, 4, 4, 1, 1, 5, EXPECTED_HEARD_WIDTH, 16, 16, 16, 16, 16, 16, 16, 24};
 
 static int64_t held_field(const uint8_t *bytes, int place)
@@ -74,8 +75,8 @@ void expected_seal(uint8_t *session)
 static bool is_record(const uint8_t *session)
 {
     size_t count = expected_blocks(session);
-    return held_field(session, 0) == EXPECTED_MARK && (count > 0 || held_field(session, 1) == NO_BLOCKS) && is_sealed(session, HELD_CHECK)
-        && (count == 0 || is_sealed(session + EXPECTED_FRONT, count * BUONGILACH_BLOCK_BYTES));
+    return held_field(session, 0) == EXPECTED_MARK && (count > 0 || held_field(session, 1) == NO_BLOCKS)
+        && is_sealed(session, HELD_CHECK) && (count == 0 || is_sealed(session + EXPECTED_FRONT, count * BUONGILACH_BLOCK_BYTES));
 }
 
 /* A and B together, by state (crates/brake/specs/Sound.antt, `isBalanced`). */

@@ -59,8 +59,8 @@ static bool changes_seen(void)
 }
 
 /* Every answer of either opening and of a sample call, every state and a call of emergency in it, trains that run away, such as
- * speed up again, and such as their blocks decide, every kind of lost rear under either choice, of lesson, of consist and of change,
- * and a denormal below zero. */
+ * speed up again, and such as their blocks decide, every kind of lost rear under either choice, of lesson, of consist and of
+ * change, and a denormal below zero. */
 static bool all_seen(void)
 {
     static const int answers[] = {0, 1, 2, 3, 6, 7, 8, 9, 10, 12}, openings[] = {0, 2, 4, 5, 12, 13};
@@ -74,8 +74,9 @@ static bool all_seen(void)
         && consists_all_seen() && changes_seen() && made_below_zero > 0;
 }
 
-/* Nothing that was changed in a byte or two of its record is open, nor what was heard or learnt when nothing can have been, nor what
- * was learnt past a bound, nor a record of the layout before; nothing is shut by a byte past it, nor by the other choice. */
+/* Nothing that was changed in a byte or two of its record is open, nor what was heard or learnt when nothing can have been, nor
+ * what was learnt past a bound, nor a record of the layout before; nothing is shut by a byte past it, nor by the other choice, nor
+ * by something else learnt inside the bounds. */
 static bool changes_found(void)
 {
     return changed.front.open == 0 && changed.blocks.open == 0 && changed.past.shut == 0 && changed.choice.shut == 0

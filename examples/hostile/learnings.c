@@ -20,10 +20,8 @@ static void numbers_of(second_learning *now, int64_t *numbers[NUMBERS])
 
 static int64_t bound_of(int number, int64_t points)
 {
-    const int64_t bounds[NUMBERS] = {LATEST,          LATEST,
-                                     PRESSURE,        POINTS,
-                                     LATEST * points, LATEST * LATEST * points,
-                                     PRESSURE * points, LATEST * PRESSURE * points};
+    const int64_t bounds[NUMBERS] = {LATEST,          LATEST,                   PRESSURE,          POINTS,
+                                     LATEST * points, LATEST * LATEST * points, PRESSURE * points, LATEST * PRESSURE * points};
     return bounds[number];
 }
 
@@ -101,7 +99,8 @@ static void try_too_soon(const trip *t)
 static void try_flat(const trip *t)
 {
     trip low = *t;
-    uint32_t front = (uint32_t)second_bits(t->session, 136, 16), rear = (uint32_t)second_bits(t->session, 104, 16) / 2;
+    uint32_t front = (uint32_t)second_bits(t->session, EXPECTED_LAST_FRONT, 16);
+    uint32_t rear = (uint32_t)second_bits(t->session, EXPECTED_EQUALIZATION, 16) / 2;
     trip_readings(&low, front, true, rear);
     second_learning now = {.stage = SECOND_REAR_FALLS, .fell_at = before(t, 60), .t_init = 10, .last_t = 2, .pressure = rear + 1,
                            .sums = {.n = 3, .t = 3, .tt = 5, .p = 3 * PRESSURE, .tp = 3 * PRESSURE}};

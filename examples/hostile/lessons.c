@@ -3,8 +3,8 @@
  */
 #include "lessons.h"
 
+#include "learnings.h"
 #include "made.h"
-#include "trip.h"
 
 #include <stdio.h>
 #include <string.h>
@@ -180,6 +180,10 @@ void run_lessons(void)
 {
     static void (*const kinds[])(trip *) = {teach_any, teach_any, teach_any, teach_any, teach_half, teach_too_long};
     static trip t;
+    trip_begin(&t, SLOW, NO_BLOCKS);
+    try_learnings(&t);
+    trip_go(&t);
+    try_learnings(&t);
     for (int i = 0; i < LESSONS; i++) {
         trip_begin(&t, SLOW, i % 3 == 0 ? FEW_BLOCKS : NO_BLOCKS);
         kinds[i % (int)(sizeof kinds / sizeof *kinds)](&t);
