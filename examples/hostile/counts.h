@@ -38,7 +38,7 @@ typedef struct {
     unsigned long cut[2];          /* learning cut by a release, by an emergency */
     /* of any session */
     unsigned long loose;           /* no run leaves what was learnt there, and nothing says what follows */
-    unsigned long flat;            /* learning ended without a result, by sums of no slope */
+    unsigned long flat;            /* learning ended without a result, by sums of a line that does not fall */
 } tally;
 
 extern tally tried;

@@ -62,7 +62,8 @@ bool expected_learning_right(const second_learning *now, bool begun);
 /* Learns from an accepted sample, its brakes updated, whose rear is present or lost. */
 void expected_learn(expected_session *session, bool present);
 
-/* Whether no run leaves that before a sample of that time, so that nothing says what follows of it. */
+/* Whether that has a field which its stage has no use for, or a time that is not before a sample's: no run leaves it, and nothing
+ * says what follows of it. Of sums that no points come to it is said (docs/DECISIONS.md 160 and 161). */
 bool expected_is_loose(const second_learning *before, int64_t time);
 
 /* How many blocks the second byte of a record's mark tells: none for a byte that is no count. */

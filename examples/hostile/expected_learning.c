@@ -164,17 +164,8 @@ static bool is_untidy(const second_learning *now)
     return !is_nothing(&unused);
 }
 
-/* Whether the line has a denominator, a fall or a beginning below 0, which no falling points have. */
-static bool is_of_no_points(const second_point_sums *sums)
-{
-    return sums->n * sums->tt < sums->t * sums->t || sums->n * sums->tp > sums->t * sums->p
-        || sums->tt * sums->p < sums->t * sums->tp;
-}
-
 bool expected_is_loose(const second_learning *before, int64_t time)
 {
     int64_t t = time - before->fell_at - before->t_init;
-    if (is_untidy(before) || before->fell_at > time)
-        return true;
-    return before->stage == SECOND_REAR_FALLS && (before->sums.n == 0 || t <= before->last_t || is_of_no_points(&before->sums));
+    return is_untidy(before) || before->fell_at > time || (before->stage == SECOND_REAR_FALLS && t <= before->last_t);
 }

@@ -4,7 +4,7 @@
  * bytes everywhere; trains with blocks and without, that run away, speed up again on ups and downs, run past a board, with other
  * targets afterwards, lose their rear for longer than its last value counts, under either choice of what it counts as then, or show
  * at their rear how long an application takes. Each answer and every lent byte is held to the second program's rules; only what is
- * learnt from a record that no run leaves is held to its bounds alone.
+ * learnt from a record with a field or a time that no run leaves there is held to its bounds alone.
  *
  *     tools/cc-mounted target/hostile -DSECOND_NO_MAIN examples/hostile/[a-z]*.c second/second.c
  *     tools/launch --static target/hostile [--denormals-are-zero] [SEED [TIMES]]

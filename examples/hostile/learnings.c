@@ -95,7 +95,8 @@ static void try_too_soon(const trip *t)
 
 /* ---- what no points come to */
 
-/* Three points at one pressure, and a last one that is just above this sample's rear: the fall ends, and there is no slope. */
+/* Three points at one pressure, and a last one that is just above this sample's rear: the fall ends, and the line does not fall; of
+ * sums that no points come to, it may rise, or have a denominator below 0. */
 static void try_flat(const trip *t)
 {
     trip low = *t;
@@ -105,8 +106,9 @@ static void try_flat(const trip *t)
     second_learning now = {.stage = SECOND_REAR_FALLS, .fell_at = before(t, 60), .t_init = 10, .last_t = 2, .pressure = rear + 1,
                            .sums = {.n = 3, .t = 3, .tt = 5, .p = 3 * PRESSURE, .tp = 3 * PRESSURE}};
     try_one(&changed.learning, &low, &now);
-    /* a slope that rises */
     now.sums.tp++;
+    try_one(&changed.learning, &low, &now);
+    now.sums.tt = 1;
     try_one(&changed.learning, &low, &now);
 }
 
