@@ -2,8 +2,8 @@
  * plain.c - the rules of documents 01 and 02 in plain C, as fast as the direct way
  * is: one walk finds the stop and every target's location, a second one is made
  * only where a penalty stands or is called, averages come of running totals, each
- * block's end is looked for from where it was last, numbers are 64 bits wide.  second/
- * says each rule's phrase; here they stand without it.
+ * block's end is looked for from where it was last, of the points that teach an application
+ * time the sums are kept, numbers are 64 bits wide but for one quotient.  second/ says each rule's phrase; here they stand without it.
  *
  * Its parts stand in files of their own, each of which uses those before it; this
  * one file has them all.
@@ -28,8 +28,14 @@ enum {
     REACH = STEPS * STEP_FEET,
     NO_STOP = 16777215,
     KEPT_SECONDS = 5,         /* how long a lost rear counts as the last present one */
-    NEVER = -1 - KEPT_SECONDS /* a time that every sample's is further from */
+    NEVER = -1 - KEPT_SECONDS, /* a time that every sample's is further from */
+    THREE_PSI = 300,
+    LEARNING_SECONDS = 600,   /* since the front fell */
+    POINTS = 256,
+    JUDGED_POINTS = 4
 };
+
+enum { WAITING, FRONT_FELL, REAR_KNOWN, REAR_FALLS, DONE };
 
 enum { CHARGED, APPLYING_SERVICE, HOLDING_SERVICE, APPLYING_EMERGENCY, HOLDING_EMERGENCY, CHARGING };
 
@@ -65,5 +71,6 @@ typedef struct {
 #include "plain/numbers.c"
 #include "plain/records.c"
 #include "plain/brakes.c"
+#include "plain/learn.c"
 #include "plain/walk.c"
 #include "plain/session.c"

@@ -26,11 +26,21 @@ typedef struct {
     int64_t last_heard; /* the time of the last present rear */
 } plain_brakes;
 
-/* All zero is "no session is open". */
+/* How far learning the application time is: of the falling rear's points, their sums. */
+typedef struct {
+    int stage;
+    int64_t fell;         /* when the front fell */
+    int64_t init, last;   /* seconds from there to the first point, and from that to the last one */
+    int64_t pressure;     /* the rear's at the fall, then the last point's */
+    int64_t n, t, tt, p, tp;
+} plain_learner;
+
+/* All zero is "no session is open".  The train's application time is the one in force. */
 typedef struct {
     bool open, begun;
     plain_consist train;
     plain_brakes brakes;
+    plain_learner learner;
     int cause, emergency;
 } plain_session;
 

@@ -39,7 +39,7 @@ extern "C" {
 #endif
 
 /* The version of this header, major * 1,000,000 + minor * 1,000 + patch. */
-#define BUONGILACH_VERSION_MAJOR 7
+#define BUONGILACH_VERSION_MAJOR 8
 #define BUONGILACH_VERSION_MINOR 0
 #define BUONGILACH_VERSION_PATCH 0
 #define BUONGILACH_VERSION (BUONGILACH_VERSION_MAJOR * 1000000 + BUONGILACH_VERSION_MINOR * 1000 + BUONGILACH_VERSION_PATCH)
@@ -48,7 +48,7 @@ extern "C" {
 uint32_t buongilach_version(void);
 
 enum {
-    BUONGILACH_SESSION_BYTES = 304,      /* a session's buffer, with blocks or without */
+    BUONGILACH_SESSION_BYTES = 326,      /* a session's buffer, with blocks or without */
     BUONGILACH_CONSIST_BYTES = 16,       /* a consist without blocks */
     BUONGILACH_BLOCK_BYTES = 4,          /* what each block adds to it */
     BUONGILACH_BLOCKS_MOST = 64,
@@ -71,7 +71,7 @@ enum {
 /* What a call answers. docs/MOUNTING.md says what each asks of the caller. */
 enum buongilach_refusal {
     BUONGILACH_ACCEPTED = 0,
-    BUONGILACH_NO_SESSION = 1,     /* a sample, and no open session's record stands at the front of 304 bytes */
+    BUONGILACH_NO_SESSION = 1,     /* a sample, and no open session's record stands at the front of 326 bytes */
     BUONGILACH_WRONG_LENGTH = 2,   /* a consist is under 16 bytes, a sample not 20, a decision that is read not 8 */
     BUONGILACH_WRONG_MARK = 3,     /* a wrong mark; a sample's spare bit set, or its rear lost with rear bits not zero */
     BUONGILACH_OUT_OF_RANGE = 4,   /* a field of a consist or a decision; a sample's time or head over 24 bits (writer) */
@@ -82,7 +82,7 @@ enum buongilach_refusal {
     BUONGILACH_WRONG_TIME = 9,     /* not 1 to 5 seconds after the last accepted sample */
     BUONGILACH_NOT_COVERED = 10,   /* head less than the train's length, or a profile too short before or behind it */
     /* 11 is retired: it is proved that no input gives it, and the number is not used again */
-    BUONGILACH_NO_ROOM = 12,       /* fewer bytes (or numbers) to write to than are asked for: 16 bytes by a sample call, 304 by an
+    BUONGILACH_NO_ROOM = 12,       /* fewer bytes (or numbers) to write to than are asked for: 16 bytes by a sample call, 326 by an
                                       opening */
     BUONGILACH_BROKEN_BLOCKS = 13  /* a consist's blocks break a rule, their byte count included */
 };
@@ -113,16 +113,18 @@ enum buongilach_number {
 /* ---- the session */
 
 /*
- * A session is a record at the front of a buffer of 304 bytes or more: 44 bytes, and where its consist has blocks 4 more for each
- * and another 4. An accepted call writes the record and sets the bytes past it, up to the 304th, to 0; no call reads those, and
- * none reads or writes a byte from the 305th on. Check words guard the record: one in which one byte or two were changed, wherever,
+ * A session is a record at the front of a buffer of 326 bytes or more: 66 bytes, and where its consist has blocks 4 more for each
+ * and another 4. An accepted call writes the record and sets the bytes past it, up to the 326th, to 0; no call reads those, and
+ * none reads or writes a byte from the 327th on. Check words guard the record: one in which one byte or two were changed, wherever,
  * is no open session's; where more were changed, only chance makes it one.
  */
 
 /*
  * Opens a session, whatever stood in its buffer. The consist is 16 bytes, and 4 more for each of its blocks. A lost rear reading
  * counts in this session as the last present one for 5 seconds, and then as front: buongilach_open_with with `everlasting` 0.
- * Refuses 2, 4, 5 (the consist), 12 (`session` under 304 bytes, whatever the consist), 13 (the consist's blocks). Refused, an
+ * The consist's application time is a first guess, in force until the session learns one (buongilach_application); an opening
+ * forgets what an earlier session learnt.
+ * Refuses 2, 4, 5 (the consist), 12 (`session` under 326 bytes, whatever the consist), 13 (the consist's blocks). Refused, an
  * earlier session stays as it was.
  */
 uint8_t buongilach_open(uint8_t *session, size_t session_bytes, const uint8_t *consist, size_t consist_bytes);
@@ -153,8 +155,10 @@ uint8_t buongilach_open_with(uint8_t *session, size_t session_bytes, const uint8
  * targets are lent afterwards. There is no emergency without a penalty.
  * A lost rear pressure is no refusal: the sample is judged with what it counts as under the session's choice (the openings, above),
  * by default the last present one for 5 seconds and then front. Only accepted samples bring a present one.
+ * The application time is learnt from present rear readings while a service application falls to the train's rear and levels off.
+ * A learnt time is in force from the next sample on; a refused sample teaches nothing.
  * Grade and curvature under the train are averaged by the weight of the consist's blocks, or evenly where it has none.
- * Refuses 1 (no open session's record, or `session` under 304 bytes), 2, 3, 6, 7, 8, 9, 10, 12 (`decision` under 16 bytes).
+ * Refuses 1 (no open session's record, or `session` under 326 bytes), 2, 3, 6, 7, 8, 9, 10, 12 (`decision` under 16 bytes).
  */
 uint8_t buongilach_sample(uint8_t *session, size_t session_bytes, const uint8_t *sample, size_t sample_bytes,
                           const uint8_t *profile, size_t profile_bytes, const uint8_t *targets, size_t targets_bytes,
@@ -163,13 +167,20 @@ uint8_t buongilach_sample(uint8_t *session, size_t session_bytes, const uint8_t 
 /* Whether an open session's record stands at the front of these bytes: whether `buongilach_sample` would not refuse them 1. */
 bool buongilach_is_open(const uint8_t *session, size_t session_bytes);
 
+/*
+ * The application time in force, in ms, so that a host can log it: what the consist says until one was learnt from a service
+ * application's rear pressure, then the one that was learnt last, 1,000 to 240,000. 0 where these bytes begin with no open
+ * session's record. It reads the session and changes nothing.
+ */
+uint32_t buongilach_application(const uint8_t *session, size_t session_bytes);
+
 /* ---- the records: each is written from numbers, and judged as a sample call or an opening would judge it */
 
 /*
  * Writes a consist without blocks, its weight spread evenly, to the first 16 bytes of `out`: cars (1 to 250), axles (2 to 2,000),
  * weight (10 to 30,000 tons), length (50 to 20,000 ft), rated brake force (0 to 10,000,000 lb), application time (1,000 to 240,000
- * ms), recharge per second (1 to 1,000 hundredths of a psi), set pressure (7,000 to 11,000 hundredths of a psi), target offset (0
- * to 4,000 ft).
+ * ms, a first guess), recharge per second (1 to 1,000 hundredths of a psi), set pressure (7,000 to 11,000 hundredths of a psi),
+ * target offset (0 to 4,000 ft).
  * Refuses 4, 5, 12.
  */
 uint8_t buongilach_write_consist(uint16_t cars, uint16_t axles, uint16_t weight, uint16_t length, uint32_t rated,

@@ -1,7 +1,8 @@
 /*
  * standin.c - a stand-in for the C library, over the rules that `hostile` expects, so that its tests need no archive. The
  * variable PLANTED names one fault, which `hostile` must find. Here are the tables, the sample's record and the decision's;
- * standin_consists.c has the consists, standin_sessions.c opening and sample, standin_rears.c what a lost rear counts as.
+ * standin_consists.c has the consists, standin_sessions.c opening and sample, standin_rears.c what a lost rear counts as,
+ * standin_learning.c the application time.
  */
 #include "standin.h"
 

@@ -20,6 +20,15 @@ uint32_t choice_taken(uint32_t everlasting);
 void miscount_rear(uint8_t *record, part sample);
 void put_rear_back(uint8_t *next, const uint8_t *before, part sample);
 
+/* Makes the record that follows `before` hold what that sample teaches, or what a wrong library learns from it. */
+void learn(uint8_t *next, const uint8_t *before, part sample);
+
+/* Puts an application time in force into a record, and seals it. */
+void put_application(uint8_t *record, int64_t application);
+
+/* Makes a sealed record one that a library takes which leaves a rule for what is learnt out. */
+void leave_learning_rule_out(uint8_t *record);
+
 /* Makes a sealed record one that a library takes which leaves a rule for choice, time heard or mark out. */
 void leave_rear_rule_out(uint8_t *record);
 

@@ -70,7 +70,7 @@ void miscount_rear(uint8_t *record, part sample)
 {
     if (!is_lost(sample) || second_bits(record, EXPECTED_SAMPLED, 1) == 0)
         return;
-    int64_t heard = heard_in(record), now = heard_now(sample), before = second_bits(record, 168, 24) + 1;
+    int64_t heard = heard_in(record), now = heard_now(sample), before = second_bits(record, EXPECTED_LAST_TIME, 24) + 1;
     bool everlasting = is_everlasting(record);
     if (heard == 0) {
         if (planted("sample: none yet counts as the last rear"))
@@ -113,8 +113,8 @@ void leave_rear_rule_out(uint8_t *record)
         put_rear(record, is_everlasting(record), BITS_24);
     if (planted("sample: heard before any sample") && second_bits(record, EXPECTED_SAMPLED, 1) == 0)
         put_rear(record, is_everlasting(record), 0);
-    if (planted("sample: the mark of the layout before") && record[0] == 0x42) {
-        record[0] = 0x43;
+    if (planted("sample: the mark of the layout before") && record[0] == 0x43) {
+        record[0] = EXPECTED_MARK;
         expected_seal(record);
     }
 }

@@ -12,6 +12,8 @@ static uint8_t opened(uint8_t *session, size_t session_bytes, part given, uint32
     uint8_t due[BUONGILACH_SESSION_BYTES] = {0};
     unsigned answer = expected_open(session_bytes, given, everlasting, due);
     size_t written_bytes = BUONGILACH_SESSION_BYTES;
+    if (planted("open: the learnt time stays") && answer == 0 && expected_application(part_of(session, session_bytes)) != 0)
+        put_application(due, expected_application(part_of(session, session_bytes)));
     if (planted("open: a byte past the session") && answer == 0)
         session[BUONGILACH_SESSION_BYTES] = 1;
     if (planted("open: shut by a refusal") && answer != 0 && session_bytes > 0)
@@ -20,9 +22,9 @@ static uint8_t opened(uint8_t *session, size_t session_bytes, part given, uint32
         return 12;
     if (planted("open: 13 before 12") && answer == 12 && expected_judge_consist(given) == 13)
         return 13;
-    if (planted("open: 303 bytes will do") && answer == 12 && session_bytes == 303 && expected_judge_consist(given) == 0) {
+    if (planted("open: 325 bytes will do") && answer == 12 && session_bytes == 325 && expected_judge_consist(given) == 0) {
         answer = expected_open(BUONGILACH_SESSION_BYTES, given, everlasting, due);
-        written_bytes = 303;
+        written_bytes = 325;
     }
     if (planted("open: the record's own size will do") && answer == 12 && session_bytes >= FRONT
         && given.count == BUONGILACH_CONSIST_BYTES) {
@@ -63,8 +65,8 @@ bool buongilach_is_open(const uint8_t *session, size_t session_bytes)
     expected_session held;
     uint8_t longer[BUONGILACH_SESSION_BYTES] = {0};
     if (planted("is_open: by the mark") && session_bytes >= BUONGILACH_SESSION_BYTES)
-        return session[0] == 0x43 && session[1] == NO_BLOCKS;
-    if (planted("is_open: 304 bytes only") && session_bytes > BUONGILACH_SESSION_BYTES)
+        return session[0] == EXPECTED_MARK && session[1] == NO_BLOCKS;
+    if (planted("is_open: 326 bytes only") && session_bytes > BUONGILACH_SESSION_BYTES)
         return false;
     if (planted("is_open: the record's own size will do") && session_bytes >= FRONT && session_bytes < sizeof longer) {
         memcpy(longer, session, session_bytes);
@@ -108,8 +110,10 @@ static void leave_front_rule_out(uint8_t *record, bool sealed)
         second_put_bits(record, 16, 4, 1);
     if (planted("sample: an opening with any brakes") && sealed)
         second_put_bits(record, EXPECTED_SAMPLED, 1, 1);
-    if (sealed)
+    if (sealed) {
         leave_rear_rule_out(record);
+        leave_learning_rule_out(record);
+    }
     if (sealed || planted("sample: the check word unread"))
         expected_seal(record);
 }
@@ -148,8 +152,8 @@ static void rearrange(expected_session *held)
         held->consist_bytes = BUONGILACH_CONSIST_BYTES;
 }
 
-/* What is due of a sample, by a library that lets the blocks lie otherwise or counts a lost rear otherwise; what it holds of either
- * stays. */
+/* What is due of a sample, by a library that lets the blocks lie otherwise, counts a lost rear otherwise or learns otherwise; what
+ * it holds of the first two stays. */
 static unsigned due_of(part session, part sample, part profile, part targets, size_t room, uint8_t *next, uint8_t *decisions)
 {
     expected_session was, now;
@@ -168,6 +172,12 @@ static unsigned due_of(part session, part sample, part profile, part targets, si
     now.consist_bytes = was.consist_bytes;
     expected_bytes(&now, next);
     put_rear_back(next, before, sample);
+    learn(next, before, sample);
+    if (planted("sample: the learnt time serves at once")) {
+        now.now.train.application = second_bits(next, EXPECTED_APPLICATION, EXPECTED_APPLICATION_WIDTH);
+        put_application(record, now.now.train.application);
+        expected_sample(part_of(record, sizeof record), sample, profile, targets, room, before, decisions);
+    }
     return answer;
 }
 
@@ -178,7 +188,7 @@ uint8_t buongilach_sample(uint8_t *session, size_t session_bytes, const uint8_t 
     uint8_t next[BUONGILACH_SESSION_BYTES];
     uint8_t due[BUONGILACH_BOTH_DECISIONS_BYTES + 1] = {0};
     uint8_t *const second = due + BUONGILACH_DECISION_BYTES;
-    if (planted("sample: 304 bytes only") && session_bytes > BUONGILACH_SESSION_BYTES)
+    if (planted("sample: 326 bytes only") && session_bytes > BUONGILACH_SESSION_BYTES)
         return 1;
     if (planted("sample: 12 before 3") && decision_bytes < BUONGILACH_BOTH_DECISIONS_BYTES
         && sample_bytes == BUONGILACH_SAMPLE_BYTES && buongilach_is_open(session, session_bytes))
@@ -219,10 +229,12 @@ uint8_t buongilach_sample(uint8_t *session, size_t session_bytes, const uint8_t 
         second_put_bits(session, EXPECTED_HEARD, EXPECTED_HEARD_WIDTH, second_bits(sample, 8, 24) + 1);
         expected_seal(session);
     }
+    if (planted("sample: learnt when refused") && answer == 10)
+        put_application(session, 1000);
     if (planted("sample: decision written when refused") && answer == 9)
         memset(decision, 0x44, decision_bytes);
     if (planted("sample: the last rear lost") && answer == 0) {
-        second_put_bits(next, 152, 16, 0);
+        second_put_bits(next, EXPECTED_LAST_REAR, 16, 0);
         expected_seal(next);
     }
     if (planted("sample: the session stays") && answer == 0)

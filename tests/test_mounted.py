@@ -12,15 +12,17 @@ from feeds import random_feed
 
 FLAGS = ["-DSECOND_NO_MAIN", "-I" + os.path.join(ROOT, "include")]
 HEADER = os.path.join(ROOT, "include", "buongilach.h")
-STANDIN = [os.path.join(ROOT, "tests", name) for name in ("standin.c", "standin_consists.c", "standin_rears.c",
-                                                                 "standin_sessions.c")]
+STANDIN = [os.path.join(ROOT, "tests", name) for name in ("standin.c", "standin_consists.c", "standin_learning.c",
+                                                          "standin_rears.c", "standin_sessions.c")]
+LEARNT = os.path.join(ROOT, "tests", "learnt.c")
 MANIFEST = os.path.join(ROOT, "tests", "manifest.c")
 QUIET = os.path.join(ROOT, "tests", "quiet.c")
 HOSTILE = sorted(os.path.join(EXAMPLES, "hostile", name) for name in os.listdir(os.path.join(EXAMPLES, "hostile"))
                  if name.endswith(".c"))
 # The stand-in takes its answers from the rules that hostile expects.
-EXPECTED = [os.path.join(EXAMPLES, "hostile", name) for name in ("expected.c", "expected_consist.c", "expected_held.c")]
-SESSION_BYTES = 304
+EXPECTED = [os.path.join(EXAMPLES, "hostile", name) for name in ("expected.c", "expected_consist.c", "expected_held.c",
+                                                                 "expected_learning.c")]
+SESSION_BYTES = 326
 
 
 def build(name, *sources):
@@ -112,15 +114,21 @@ class Examples(unittest.TestCase):
         self.assertEqual(shown("quiet", "A rear device that goes quiet", QUIET),
                          b"14 5 0 0 5000\n14 5 0 0 0\n14 0 0 0 5000\n14 0 0 0 0\n")
 
+    def test_the_page_shows_the_learnt_time(self):
+        """Its lines write it down when it is learnt, and not again."""
+        told = shown("learnt", "The application time is learnt", LEARNT).decode().split("\n")
+        self.assertEqual([line for line in told if "ms" in line], ["0: application time 30000 ms", "7: application time 10696 ms"])
+        self.assertIn("10696 ms", section_of("The application time is learnt"))
+
     def test_the_paper_has_the_sessions_just_opened(self):
         """docs/RECORDS.md shows the bytes that an opening leaves, without blocks and with."""
         standin = built.library("standin.so", *FLAGS, *STANDIN, *EXPECTED, built.SECOND)
         records = [bytes.fromhex(words) for words in re.findall(
             r"^\| (?:manifest, the )?(?:consist|session)[^|]*\| `([0-9A-F ]+)` \|$", page("RECORDS.md"), re.M)]
-        self.assertEqual([len(each) for each in records], [16, 44, 24, 56])
+        self.assertEqual([len(each) for each in records], [16, 66, 24, 78])
         for consist, session in (records[:2], records[2:]):
-            room = ctypes.create_string_buffer(b"\xa5" * 313, 313)
-            self.assertEqual(standin.buongilach_open(room, ctypes.c_size_t(313), consist, ctypes.c_size_t(len(consist))), 0)
+            room = ctypes.create_string_buffer(b"\xa5" * 335, 335)
+            self.assertEqual(standin.buongilach_open(room, ctypes.c_size_t(335), consist, ctypes.c_size_t(len(consist))), 0)
             self.assertEqual(room.raw, session.ljust(SESSION_BYTES, b"\0") + b"\xa5" * 9)
 
 

@@ -20,7 +20,7 @@ CASE = {
 # the train of the paper's blocks
 MANIFEST = [100, 400, 6000, 6000, 300000, 60000, 50, 9000, 0]
 BLOCKS = [3000, 600, 0, 3000, 5400, 0]
-SESSION_MOST = 304
+SESSION_MOST = 326
 
 
 def paper():
@@ -86,25 +86,25 @@ class Records(unittest.TestCase):
 
     def test_the_session_is_sealed(self):
         session = bytes_of("session")
-        self.assertEqual(session[24:40], bytes_of("consist"))
-        self.assert_sealed(session[:40], session[40:])
+        self.assertEqual(session[46:62], bytes_of("consist"))
+        self.assert_sealed(session[:62], session[62:])
 
     def test_the_session_as_opened(self):
         """Mark, blocks, hold and A, the set pressure; all else before the consist is 0."""
         for name, blocks in (("session", 0x55), ("manifest, the session", 2)):
-            values = records.unpack(bytes_of(name)[:24], widths("session")[:-3])
-            self.assertEqual(values, [0x43, blocks, 0, 0, 0, 0, 0, 0, 9000, 9000, 0, 0, 0, 0, 0, 0])
+            values = records.unpack(bytes_of(name)[:46], widths("session")[:-3])
+            self.assertEqual(values, [0x46, blocks, 0, 0, 0, 0, 0, 0, 9000, 9000] + [0] * 16)
 
     def test_a_train_in_blocks(self):
         consist, session = bytes_of("manifest, the consist"), bytes_of("manifest, the session")
         self.assertEqual(records.unpack(consist[:16], widths("consist")), MANIFEST)
         self.assertEqual(records.unpack(consist[16:], widths("block") * 2), BLOCKS)
-        self.assertEqual((session[24:40], session[44:52]), (consist[:16], consist[16:]))
-        self.assert_sealed(session[:40], session[40:44])
-        self.assert_sealed(session[44:52], session[52:])
+        self.assertEqual((session[46:62], session[66:74]), (consist[:16], consist[16:]))
+        self.assert_sealed(session[:62], session[62:66])
+        self.assert_sealed(session[66:74], session[74:])
 
     def test_the_most_bytes_of_a_session(self):
-        self.assertEqual(SESSION_MOST, 44 + records.BLOCK_BYTES * records.MOST_BLOCKS + 4)
+        self.assertEqual(SESSION_MOST, 66 + records.BLOCK_BYTES * records.MOST_BLOCKS + 4)
         self.assertIn("%d at most" % SESSION_MOST, paper())
 
 

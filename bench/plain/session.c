@@ -88,6 +88,7 @@ int plain_sample(plain_session *session, const uint8_t *sample_bytes, size_t sam
     int state = after.brakes.state;
     write_decision(decision, 0x44, sample.time, state, after.cause, stop);
     write_decision(decision + DECISION_BYTES, 0x45, sample.time, state, after.emergency, emergency_stop);
+    learn(&after.learner, &after.train, &after.brakes, &sample);
     *session = after;
     return 0;
 }

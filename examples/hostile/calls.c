@@ -1,57 +1,20 @@
 /*
- * calls.c - see calls.h.
+ * calls.c - see calls.h: the version, and the session's calls.
  */
 #include "calls.h"
 
-#include <stdio.h>
+#include "watch.h"
+
 #include <string.h>
 
-enum { TOLD = 10 }; /* faults that are told one by one */
-
-static lent session, consist, sample, profile, targets, out, first, second, third;
+static lent session, consist, sample, profile, targets, out;
 
 void calls_make(void)
 {
-    lent *const all[] = {&session, &consist, &sample, &profile, &targets, &out, &first, &second, &third};
+    lent *const all[] = {&session, &consist, &sample, &profile, &targets, &out};
     for (size_t i = 0; i < sizeof all / sizeof *all; i++)
         lent_make(all[i]);
-}
-
-static void hold(bool right, const char *call, const char *what)
-{
-    if (right)
-        return;
-    tried.faults++;
-    if (tried.faults <= TOLD)
-        fprintf(stderr, "hostile: call %lu, %s: %s\n", tried.calls, call, what);
-}
-
-static void hold_answer(unsigned answer, unsigned wanted, const char *call)
-{
-    char what[64];
-    tried.calls++;
-    snprintf(what, sizeof what, "answers %u, and %u is due", answer, wanted);
-    hold(answer == wanted, call, what);
-}
-
-static void hold_read(const lent *buffer, const char *call)
-{
-    hold(lent_kept_in(buffer) && lent_same_from(buffer, 0), call, "writes what it is lent to read");
-}
-
-/* The due bytes stand at the front, and every other byte as it was. */
-static void hold_written(const lent *buffer, const void *due, size_t count, const char *call)
-{
-    hold(lent_kept_in(buffer), call, "writes outside of what it is lent");
-    hold(count <= buffer->count && lent_same_from(buffer, count), call, "writes past what it is to write");
-    hold(count > buffer->count || count == 0 || memcmp(buffer->bytes, due, count) == 0, call, "writes other bytes than are due");
-}
-
-/* Elements of `size` bytes, lent as bytes. */
-static void lend_numbers(lent *buffer, part numbers, size_t size)
-{
-    part bytes = {numbers.bytes, numbers.count * size};
-    lend(buffer, bytes);
+    calls_make_records();
 }
 
 void try_version(void)
@@ -66,6 +29,13 @@ static void lend_opening(part session_before, part consist_given)
     lend(&consist, consist_given);
 }
 
+/* Whether a session is open there, and the application time in force: what two calls tell of it. */
+static void hold_told(uint32_t application)
+{
+    hold(buongilach_is_open(session.bytes, session.count) == (application != 0), "is_open", "answers otherwise than is due");
+    hold(buongilach_application(session.bytes, session.count) == application, "application", "tells another time than is due");
+}
+
 /* What an opening with that choice answered, and wrote to what it was lent. */
 static void hold_opening(const char *call, unsigned answer, part consist_given, uint32_t everlasting, uint8_t *opened)
 {
@@ -75,9 +45,9 @@ static void hold_opening(const char *call, unsigned answer, part consist_given, 
     hold_answer(answer, wanted, call);
     hold_read(&consist, call);
     hold_written(&session, due, wanted == 0 ? sizeof due : 0, call);
-    if (answer != 0)
+    if (answer != 0 || wanted != 0)
         return;
-    hold(buongilach_is_open(session.bytes, session.count), "is_open", "denies an opened session");
+    hold_told(expected_application(part_of(due, sizeof due)));
     if (opened != NULL)
         memcpy(opened, session.bytes, session.count);
 }
@@ -100,6 +70,38 @@ unsigned try_open_with(part session_before, part consist_given, uint32_t everlas
     return answer;
 }
 
+static void lend_sample(part session_before, part sample_given, part profile_given, part targets_given, part decisions_before)
+{
+    lend(&session, session_before);
+    lend(&sample, sample_given);
+    lend(&profile, profile_given);
+    lend(&targets, targets_given);
+    lend(&out, decisions_before);
+}
+
+/* Of a record that no run leaves, the library's own learning is due. */
+static void take_loose(const uint8_t *before, int64_t time, uint8_t *due)
+{
+    second_learning held, learnt;
+    expected_read_learning(before, &held);
+    if (!expected_is_loose(&held, time))
+        return;
+    expected_read_learning(session.bytes, &learnt);
+    expected_put_learning(due, &learnt);
+    second_put_bits(due, EXPECTED_APPLICATION, EXPECTED_APPLICATION_WIDTH,
+                    second_bits(session.bytes, EXPECTED_APPLICATION, EXPECTED_APPLICATION_WIDTH));
+    expected_seal(due);
+    tried.loose++;
+}
+
+static void hold_accepted(const accepted *call, bool goes_on)
+{
+    uint32_t application = expected_application(part_of(call->after, BUONGILACH_SESSION_BYTES));
+    hold(application != 0, "sample", "leaves no open session's record");
+    hold_told(application);
+    count_accepted(call, goes_on);
+}
+
 unsigned try_sample(part session_before, part sample_given, part profile_given, part targets_given, part decisions_before,
                     uint8_t *next)
 {
@@ -107,14 +109,12 @@ unsigned try_sample(part session_before, part sample_given, part profile_given, 
     uint8_t due_decisions[BUONGILACH_BOTH_DECISIONS_BYTES];
     unsigned wanted = expected_sample(session_before, sample_given, profile_given, targets_given, decisions_before.count,
                                       due_session, due_decisions);
-    lend(&session, session_before);
-    lend(&sample, sample_given);
-    lend(&profile, profile_given);
-    lend(&targets, targets_given);
-    lend(&out, decisions_before);
-    hold(buongilach_is_open(session.bytes, session.count) == (wanted != 1), "is_open", "answers otherwise than is due");
+    lend_sample(session_before, sample_given, profile_given, targets_given, decisions_before);
+    hold_told(expected_application(session_before));
     unsigned answer = buongilach_sample(session.bytes, session.count, sample.bytes, sample.count, profile.bytes, profile.count,
                                         targets.bytes, targets.count, out.bytes, out.count);
+    if (wanted == 0)
+        take_loose(session_before.bytes, second_bits(sample_given.bytes, 8, 24), due_session);
     hold_answer(answer, wanted, "sample");
     hold_read(&sample, "sample");
     hold_read(&profile, "sample");
@@ -122,133 +122,22 @@ unsigned try_sample(part session_before, part sample_given, part profile_given, 
     hold_written(&session, due_session, wanted == 0 ? sizeof due_session : 0, "sample (session)");
     hold_written(&out, due_decisions, wanted == 0 ? sizeof due_decisions : 0, "sample (decisions)");
     tried.answers[answer < 14 ? answer : 0]++;
-    if (answer == 0)
-        hold(buongilach_is_open(session.bytes, session.count), "is_open", "denies the session after a sample");
     if (answer == 0 && wanted == 0) {
         const accepted call = {session_before, sample_given, profile_given, targets_given, due_session, due_decisions};
-        count_accepted(&call, next != NULL);
+        hold_accepted(&call, next != NULL);
     }
     if (answer == 0 && next != NULL)
         memcpy(next, session.bytes, session.count);
     return answer;
 }
 
-void try_judges(part consist_given, part sample_given, part profile_given, part targets_given)
+void hold_learning(const second_session *points, const uint8_t *session_held)
 {
-    lend(&consist, consist_given);
-    lend(&sample, sample_given);
-    lend(&profile, profile_given);
-    lend(&targets, targets_given);
-    hold_answer(buongilach_judge_consist(consist.bytes, consist.count), expected_judge_consist(consist_given), "judge_consist");
-    hold_answer(buongilach_judge_sample(sample.bytes, sample.count), expected_judge_sample(sample_given), "judge_sample");
-    hold_answer(buongilach_judge_profile(profile.bytes, profile.count), expected_judge_profile(profile_given), "judge_profile");
-    hold_answer(buongilach_judge_targets(targets.bytes, targets.count), expected_judge_targets(targets_given), "judge_targets");
-    hold_read(&consist, "judge_consist");
-    hold_read(&sample, "judge_sample");
-    hold_read(&profile, "judge_profile");
-    hold_read(&targets, "judge_targets");
-}
-
-void try_consist(part consist_given, unsigned due)
-{
-    lend(&consist, consist_given);
-    hold(expected_judge_consist(consist_given) == due, "the papers", "judge a consist otherwise than it was made");
-    hold(expected_alike(consist_given), "the second program", "judges a consist otherwise");
-    hold_answer(buongilach_judge_consist(consist.bytes, consist.count), due, "judge_consist");
-    hold_read(&consist, "judge_consist");
-}
-
-unsigned try_write_consist(const uint32_t *fields, part out_before)
-{
-    uint8_t due[BUONGILACH_CONSIST_BYTES];
-    unsigned wanted = expected_write_consist(fields, out_before.count, due);
-    lend(&out, out_before);
-    unsigned answer = buongilach_write_consist((uint16_t)fields[0], (uint16_t)fields[1], (uint16_t)fields[2],
-                                               (uint16_t)fields[3], fields[4], fields[5], (uint16_t)fields[6],
-                                               (uint16_t)fields[7], (uint16_t)fields[8], out.bytes, out.count);
-    hold_answer(answer, wanted, "write_consist");
-    hold_written(&out, due, wanted == 0 ? sizeof due : 0, "write_consist");
-    return answer;
-}
-
-unsigned try_write_manifest(const uint32_t *fields, part lengths, part weights, part out_before)
-{
-    uint8_t due[BUONGILACH_CONSIST_BYTES_MOST];
-    unsigned wanted = expected_write_manifest(fields, lengths, weights, out_before.count, due);
-    lend_numbers(&first, lengths, sizeof(uint16_t));
-    lend_numbers(&second, weights, sizeof(uint16_t));
-    lend(&out, out_before);
-    unsigned answer = buongilach_write_manifest((uint16_t)fields[0], (uint16_t)fields[1], (uint16_t)fields[2],
-                                                (uint16_t)fields[3], fields[4], fields[5], (uint16_t)fields[6],
-                                                (uint16_t)fields[7], (uint16_t)fields[8],
-                                                (const uint16_t *)(const void *)first.bytes, lengths.count,
-                                                (const uint16_t *)(const void *)second.bytes, weights.count, out.bytes,
-                                                out.count);
-    hold_answer(answer, wanted, "write_manifest");
-    hold_read(&first, "write_manifest");
-    hold_read(&second, "write_manifest");
-    hold_written(&out, due, wanted == 0 ? BUONGILACH_CONSIST_BYTES + lengths.count * BUONGILACH_BLOCK_BYTES : 0,
-                 "write_manifest");
-    return answer;
-}
-
-unsigned try_write_profile(part starts, part grades, part curvatures, part out_before)
-{
-    uint8_t due[BUONGILACH_PROFILE_BYTES_MOST];
-    unsigned wanted = expected_write_profile(starts, grades, curvatures, out_before.count, due);
-    lend_numbers(&first, starts, sizeof(uint32_t));
-    lend_numbers(&second, grades, sizeof(int16_t));
-    lend_numbers(&third, curvatures, sizeof(uint16_t));
-    lend(&out, out_before);
-    unsigned answer = buongilach_write_profile((const uint32_t *)(const void *)first.bytes, starts.count,
-                                               (const int16_t *)(const void *)second.bytes, grades.count,
-                                               (const uint16_t *)(const void *)third.bytes, curvatures.count, out.bytes,
-                                               out.count);
-    hold_answer(answer, wanted, "write_profile");
-    hold_read(&first, "write_profile");
-    hold_read(&second, "write_profile");
-    hold_read(&third, "write_profile");
-    hold_written(&out, due, wanted == 0 ? starts.count * BUONGILACH_PROFILE_RECORD_BYTES : 0, "write_profile");
-    return answer;
-}
-
-unsigned try_write_targets(part locations, part speeds, part out_before)
-{
-    uint8_t due[BUONGILACH_TARGETS_BYTES_MOST];
-    unsigned wanted = expected_write_targets(locations, speeds, out_before.count, due);
-    lend_numbers(&first, locations, sizeof(uint32_t));
-    lend_numbers(&second, speeds, sizeof(uint16_t));
-    lend(&out, out_before);
-    unsigned answer = buongilach_write_targets((const uint32_t *)(const void *)first.bytes, locations.count,
-                                               (const uint16_t *)(const void *)second.bytes, speeds.count, out.bytes, out.count);
-    hold_answer(answer, wanted, "write_targets");
-    hold_read(&first, "write_targets");
-    hold_read(&second, "write_targets");
-    hold_written(&out, due, wanted == 0 ? locations.count * BUONGILACH_TARGET_RECORD_BYTES : 0, "write_targets");
-    return answer;
-}
-
-unsigned try_write_sample(const uint32_t *fields, part out_before)
-{
-    uint8_t due[BUONGILACH_SAMPLE_BYTES];
-    unsigned wanted = expected_write_sample(fields, out_before.count, due);
-    lend(&out, out_before);
-    unsigned answer = buongilach_write_sample(fields[0], fields[1], fields[2], fields[3], fields[4], fields[5], out.bytes,
-                                              out.count);
-    hold_answer(answer, wanted, "write_sample");
-    hold_written(&out, due, wanted == 0 ? sizeof due : 0, "write_sample");
-    return answer;
-}
-
-unsigned try_read_decision(part decision, part numbers)
-{
-    uint32_t due[BUONGILACH_DECISION_NUMBERS];
-    unsigned wanted = expected_read_decision(decision, numbers.count, due);
-    lend(&first, decision);
-    lend_numbers(&second, numbers, sizeof(uint32_t));
-    unsigned answer = buongilach_read_decision(first.bytes, first.count, (uint32_t *)(void *)second.bytes, numbers.count);
-    hold_answer(answer, wanted, "read_decision");
-    hold_read(&first, "read_decision");
-    hold_written(&second, due, wanted == 0 ? sizeof due : 0, "read_decision");
-    return answer;
+    uint8_t due[BUONGILACH_SESSION_BYTES];
+    second_learning learnt = second_learning_of(&points->learner);
+    memcpy(due, session_held, sizeof due);
+    expected_put_learning(due, &learnt);
+    second_put_bits(due, EXPECTED_APPLICATION, EXPECTED_APPLICATION_WIDTH, points->train.application);
+    expected_seal(due);
+    hold(memcmp(due, session_held, sizeof due) == 0, "sample", "learns otherwise than the second program does from the points");
 }

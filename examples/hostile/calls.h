@@ -7,6 +7,7 @@
 #include "counts.h"
 
 void calls_make(void);
+void calls_make_records(void);
 
 /* Each answers what the library answered. What is written to is given as the part that stands there before the call; `opened` and
  * `next` take the whole session buffer after an accepted one. */
@@ -24,5 +25,8 @@ unsigned try_write_profile(part starts, part grades, part curvatures, part out);
 unsigned try_write_targets(part locations, part speeds, part out);
 unsigned try_write_sample(const uint32_t *fields, part out);
 unsigned try_read_decision(part decision, part numbers);
+
+/* What a session's record has learnt, held to the second program's session, which keeps the points. */
+void hold_learning(const second_session *points, const uint8_t *session_held);
 
 #endif

@@ -97,6 +97,7 @@ void count_accepted(const accepted *call, bool goes_on)
     tried.called[state] += before.now.emergency == 0 && after.now.emergency != 0;
     tried.sped_up += has_sped_up(call, &before.now, &after.now);
     tried.unstopped += is_unstopped(call);
+    count_learning(&before, &after, second_bits(call->sample.bytes, 32, 1) == 1, goes_on);
     if (goes_on) {
         count_blocks(call, &before);
         count_rear(call, &before, state);
@@ -105,7 +106,7 @@ void count_accepted(const accepted *call, bool goes_on)
 
 /* ---- what is told of them */
 
-static bool all_above_0(const unsigned long *counts, int count)
+bool counts_all_above_0(const unsigned long *counts, int count)
 {
     for (int i = 0; i < count; i++)
         if (counts[i] == 0)
@@ -115,8 +116,9 @@ static bool all_above_0(const unsigned long *counts, int count)
 
 bool counts_rears_seen(void)
 {
-    return all_above_0(tried.chosen, CHOICES) && all_above_0(tried.lost[0], LOSSES) && all_above_0(tried.lost[1], LOSSES)
-        && all_above_0(tried.given_up, 6) && all_above_0(tried.parted, 2);
+    return counts_all_above_0(tried.chosen, CHOICES) && counts_all_above_0(tried.lost[0], LOSSES)
+        && counts_all_above_0(tried.lost[1], LOSSES) && counts_all_above_0(tried.given_up, 6)
+        && counts_all_above_0(tried.parted, 2);
 }
 
 void counts_print(const unsigned long *counts, int first, int end)

@@ -21,6 +21,7 @@ unsigned expected_open(size_t room, part consist, uint32_t everlasting, uint8_t 
         return refusal;
     memcpy(opened.consist, consist.bytes, consist.count);
     opened.consist_bytes = consist.count;
+    opened.learning = (second_learning){0};
     second_open_with(&opened.now, consist.bytes, consist.count, everlasting != 0 ? SECOND_EVERLASTING : SECOND_FIVE_SECONDS);
     expected_bytes(&opened, session);
     return 0;
@@ -33,8 +34,10 @@ unsigned expected_sample(part session, part sample, part profile, part targets, 
         return 1;
     unsigned refusal = (unsigned)second_judge(&held.now, sample.bytes, sample.count, profile.bytes, profile.count, targets.bytes,
                                               targets.count, decisions, room);
-    if (refusal == 0)
+    if (refusal == 0) {
+        expected_learn(&held, second_bits(sample.bytes, 32, 1) == 1);
         expected_bytes(&held, next);
+    }
     return refusal;
 }
 

@@ -10,26 +10,61 @@
 
 #include "buongilach.h"
 
-/* The second program's session, with the consist's bytes: how it holds blocks is its own affair. */
+/* The second program's session, with the consist's bytes: how it holds blocks is its own affair. The record's sums stand in the
+ * place of its learner's points; the application time in force is the train's, and not the consist's own. */
 typedef struct {
     second_session now;
+    second_learning learning;
     uint8_t consist[BUONGILACH_CONSIST_BYTES_MOST];
     size_t consist_bytes;
 } expected_session;
 
 /* Of a session's record: the bytes before its blocks, and where some of its fields begin, in bits. Heard is 0 for never, else one
  * more than the time. */
-enum { EXPECTED_FRONT = 44, EXPECTED_SAMPLED = 24, EXPECTED_CHOICE = 25, EXPECTED_HEARD = 31, EXPECTED_HEARD_WIDTH = 25 };
+enum {
+    EXPECTED_FRONT = 66,
+    EXPECTED_MARK = 0x46,
+    EXPECTED_SAMPLED = 24,
+    EXPECTED_CHOICE = 25,
+    EXPECTED_STATE = 26,
+    EXPECTED_HEARD = 31,
+    EXPECTED_HEARD_WIDTH = 25,
+    EXPECTED_EQUALIZATION = 104,
+    EXPECTED_FALL = 120,
+    EXPECTED_LAST_FRONT = 136,
+    EXPECTED_LAST_REAR = 152,
+    EXPECTED_LAST_TIME = 168,
+    EXPECTED_CONSIST = 368,
+    EXPECTED_APPLICATION = EXPECTED_CONSIST + 74,
+    EXPECTED_APPLICATION_WIDTH = 18
+};
 
 /* Whether an open session's record stands at the front of the bytes, and that session. */
 bool expected_held(part bytes, expected_session *session);
 
-/* The 304 bytes of a session, open or not: its record, and zeros. */
+/* The 326 bytes of a session, open or not: its record, and zeros. */
 void expected_bytes(const expected_session *session, uint8_t *bytes);
 
 /* The same session of a train whose weight is spread evenly; under the other choice of what a lost rear counts as. */
 void expected_even(const expected_session *session, uint8_t *bytes);
 void expected_other(const expected_session *session, uint8_t *bytes);
+
+/* The application time in force, 0 where there is no open session's record. */
+uint32_t expected_application(part session);
+
+/* What a record holds of learning; put there, the record is still to be sealed. */
+void expected_read_learning(const uint8_t *session, second_learning *now);
+void expected_put_learning(uint8_t *session, const second_learning *now);
+
+/* Whether an open session may hold that, before any accepted sample or after one. */
+bool expected_learning_right(const second_learning *now, bool begun);
+
+/* Learns from an accepted sample, its brakes updated, whose rear is present or lost. */
+void expected_learn(expected_session *session, bool present);
+
+/* Whether that has a field which its stage has no use for, or a time that is not before a sample's: no run leaves it, and nothing
+ * says what follows of it. Of sums that no points come to it is said (docs/DECISIONS.md 160 and 161). */
+bool expected_is_loose(const second_learning *before, int64_t time);
 
 /* How many blocks the second byte of a record's mark tells: none for a byte that is no count. */
 size_t expected_blocks(const uint8_t *session);
@@ -37,7 +72,7 @@ size_t expected_blocks(const uint8_t *session);
 /* How many bytes that record has. */
 size_t expected_record(const uint8_t *session);
 
-/* Puts the check words right: behind so many bytes; of the front, the record's first 44 bytes; of the blocks behind it; of both. */
+/* Puts the check words right: behind so many bytes; of the front, the record's first 66 bytes; of the blocks behind it; of both. */
 void expected_seal_bytes(uint8_t *bytes, size_t count);
 void expected_seal_front(uint8_t *session);
 void expected_seal_blocks(uint8_t *session);

@@ -5,14 +5,15 @@
 
 #include <string.h>
 
-enum { MARK = 0x43, NO_BLOCKS = 0x55, MOST_PRESSURE = 16000, MOST_B = 9434, MOST_FALL = 3142, MOST_CAUSE = 8, BITS_24 = 1 << 24 };
+enum { NO_BLOCKS = 0x55, MOST_PRESSURE = 16000, MOST_B = 9434, MOST_FALL = 3142, MOST_CAUSE = 8, BITS_24 = 1 << 24 };
 
 /* Where each field begins, and its width: mark, its second byte, cause, emergency, sampled, choice, state, heard, hold, A, B,
- * equalization, fall, last front, last rear and last time; the consist's 16 bytes follow at byte 24, their check word at byte 40,
- * and where there are blocks these at byte 44, with a check word of their own behind them. */
-enum { FIELDS = 16, HELD_CONSIST = 24, HELD_CHECK = 40, CHECK_BYTES = 4 };
-static const int held_at[FIELDS] = {0, 8, 16, 20, EXPECTED_SAMPLED, EXPECTED_CHOICE, 26, EXPECTED_HEARD, 56, 72, 88, 104, 120, 136,
-                                    152, 168};
+ * equalization, fall, last front, last rear and last time. What is learnt follows at byte 24, the consist's 16 bytes at byte 46,
+ * their check word at byte 62, and where there are blocks these at byte 66, with a check word of their own behind them. */
+enum { FIELDS = 16, HELD_CONSIST = EXPECTED_CONSIST / 8, HELD_CHECK = 62, CHECK_BYTES = 4 };
+static const int held_at[FIELDS] = {0, 8, 16, 20, EXPECTED_SAMPLED, EXPECTED_CHOICE, EXPECTED_STATE, EXPECTED_HEARD, 56, 72, 88,
+                                    EXPECTED_EQUALIZATION, EXPECTED_FALL, EXPECTED_LAST_FRONT, EXPECTED_LAST_REAR,
+                                    EXPECTED_LAST_TIME};
 static const int held_width[FIELDS] = {8, 8, 4, 4, 1, 1, 5, EXPECTED_HEARD_WIDTH, 16, 16, 16, 16, 16, 16, 16, 24};
 
 static int64_t held_field(const uint8_t *bytes, int place)
@@ -74,8 +75,8 @@ void expected_seal(uint8_t *session)
 static bool is_record(const uint8_t *session)
 {
     size_t count = expected_blocks(session);
-    return held_field(session, 0) == MARK && (count > 0 || held_field(session, 1) == NO_BLOCKS) && is_sealed(session, HELD_CHECK)
-        && (count == 0 || is_sealed(session + EXPECTED_FRONT, count * BUONGILACH_BLOCK_BYTES));
+    return held_field(session, 0) == EXPECTED_MARK && (count > 0 || held_field(session, 1) == NO_BLOCKS)
+        && is_sealed(session, HELD_CHECK) && (count == 0 || is_sealed(session + EXPECTED_FRONT, count * BUONGILACH_BLOCK_BYTES));
 }
 
 /* A and B together, by state (crates/brake/specs/Sound.antt, `isBalanced`). */
@@ -160,7 +161,14 @@ bool expected_held(part bytes, expected_session *session)
     now->emergency = held_field(at, 3);
     now->begun = (int)held_field(at, 4);
     read_brakes(at, &now->brakes);
-    return is_session(now);
+    expected_read_learning(at, &session->learning);
+    return is_session(now) && expected_learning_right(&session->learning, now->begun);
+}
+
+uint32_t expected_application(part session)
+{
+    expected_session held;
+    return expected_held(session, &held) ? (uint32_t)held.now.train.application : 0;
 }
 
 void expected_bytes(const expected_session *session, uint8_t *bytes)
@@ -169,13 +177,15 @@ void expected_bytes(const expected_session *session, uint8_t *bytes)
     const second_brakes *k = &now->brakes;
     size_t blocks_bytes = session->consist_bytes - BUONGILACH_CONSIST_BYTES;
     size_t count = blocks_bytes / BUONGILACH_BLOCK_BYTES;
-    const int64_t fields[FIELDS] = {MARK, count == 0 ? NO_BLOCKS : (int64_t)count, now->cause, now->emergency, now->begun,
+    const int64_t fields[FIELDS] = {EXPECTED_MARK, count == 0 ? NO_BLOCKS : (int64_t)count, now->cause, now->emergency, now->begun,
                                     k->choice == SECOND_EVERLASTING, k->state, k->heard ? k->heard_at + 1 : 0, k->hold, k->a,
                                     k->b, k->equalization, k->fall, k->last_front, k->last_rear, k->last_time};
     memset(bytes, 0, BUONGILACH_SESSION_BYTES);
     for (int i = 0; i < FIELDS; i++)
         second_put_bits(bytes, held_at[i], held_width[i], fields[i]);
+    expected_put_learning(bytes, &session->learning);
     memcpy(bytes + HELD_CONSIST, session->consist, BUONGILACH_CONSIST_BYTES);
+    second_put_bits(bytes, EXPECTED_APPLICATION, EXPECTED_APPLICATION_WIDTH, now->train.application);
     memcpy(bytes + EXPECTED_FRONT, session->consist + BUONGILACH_CONSIST_BYTES, blocks_bytes);
     expected_seal(bytes);
 }

@@ -8,7 +8,7 @@
 
 #include <string.h>
 
-enum { BITS_24 = 1 << 24, EARLIER_MARK = 0x42 };
+enum { BITS_24 = 1 << 24 };
 
 static void put_heard(uint8_t *session, uint32_t heard)
 {
@@ -61,18 +61,15 @@ static void try_other_choice(const trip *t)
     count_change(&changed.choice, t, session);
 }
 
-/* The same session as the release before laid it out: 41 bytes, neither choice nor time heard, 7 bits of state. */
+/* The same session as the release before laid it out: 44 bytes, and nothing learnt. */
 static void lay_out_earlier(const uint8_t *session, uint8_t *earlier)
 {
-    enum { FRONT = 41, CONSIST = 21, CHECK = 37 };
+    enum { FRONT = 44, CONSIST = 24, CHECK = 40 };
     size_t blocks_bytes = expected_blocks(session) * BUONGILACH_BLOCK_BYTES;
     memset(earlier, 0, SESSION_ROOM);
+    memcpy(earlier, session, CONSIST);
     earlier[0] = EARLIER_MARK;
-    memcpy(earlier + 1, session + 1, 2);
-    second_put_bits(earlier, 24, 1, second_bits(session, EXPECTED_SAMPLED, 1));
-    second_put_bits(earlier, 25, 7, second_bits(session, 26, 5));
-    memcpy(earlier + 4, session + 7, CONSIST - 4);
-    memcpy(earlier + CONSIST, session + 24, BUONGILACH_CONSIST_BYTES);
+    memcpy(earlier + CONSIST, session + EXPECTED_CONSIST / 8, BUONGILACH_CONSIST_BYTES);
     expected_seal_bytes(earlier, CHECK);
     memcpy(earlier + FRONT, session + EXPECTED_FRONT, blocks_bytes);
     if (blocks_bytes > 0)

@@ -6,6 +6,8 @@
 
 #include "trip.h"
 
+enum { EARLIER_MARK = 0x43 }; /* of that layout */
+
 void try_rears(const trip *t);
 
 /* Any choice, and mostly a time about the given one or about the ends of the field, put into a record, which is sealed anew. */

@@ -3,6 +3,7 @@
  */
 #include "sessions.h"
 
+#include "learnings.h"
 #include "made.h"
 #include "rears.h"
 
@@ -140,6 +141,7 @@ static void try_changes(const trip *t)
     try_past(t);
     try_counts(t);
     try_rears(t);
+    try_learnings(t);
     if (expected_blocks(t->session) == 0) {
         try_sealed_front(t);
     } else {
@@ -224,13 +226,14 @@ static void random_session(const trip *t, uint8_t *bytes)
         random_brakes(&held.now);
     expected_bytes(&held, bytes);
     random_rear(bytes, t->time);
+    random_learning(bytes, t->time);
 }
 
 /* A session of the right length, mark and check words, mostly, and noise else. */
 static part noise_session(uint8_t *room)
 {
     made_noise(room, SESSION_ROOM);
-    room[0] = made_once_in(16) ? 0x42 : 0x43;
+    room[0] = made_once_in(16) ? EARLIER_MARK : EXPECTED_MARK;
     if (!made_once_in(8))
         room[1] = (uint8_t)(made_once_in(2) ? 0x55 : made_below(66));
     if (!made_once_in(4))

@@ -13,10 +13,12 @@ typedef struct {
 
 /* One byte or two of the record changed, of the front or of the blocks behind it; a byte past the record; a byte of the front or a
  * bit of the blocks with the check word put right; blocks changed together, or their count, sealed too. Sealed as well: the choice
- * turned over; heard at another time, at one past 24 bits, before any sample; the mark of the layout before. */
+ * turned over; heard at another time, at one past 24 bits, before any sample; the mark of the layout before; something else learnt,
+ * past a bound, before any sample. */
 typedef struct {
     change front, blocks, past, sealed_front, sealed_blocks, moved;
     change choice, heard, heard_too_late, heard_too_soon, earlier;
+    change learning, learning_too_far, learning_too_soon;
 } changes;
 
 extern changes changed;

@@ -5,14 +5,30 @@
 
 #include "made.h"
 
+#include <string.h>
+
 enum { LONG_PROFILE = 600 };
 
 const block_range ANY_BLOCKS = {0, 64}, NO_BLOCKS = {0, 0}, FEW_BLOCKS = {1, 5}, MOST_BLOCKS = {64, 64};
 
+/* The bits of the least reading that is not below so many hundredths: rounded down, it is just these. */
+static uint32_t pressure_of(uint32_t hundredths)
+{
+    uint32_t bits = made_reading(hundredths);
+    float psi;
+    memcpy(&psi, &bits, sizeof psi);
+    return 100.0 * psi < hundredths ? bits + 1 : bits;
+}
+
+void trip_readings(trip *t, uint32_t front, bool present, uint32_t rear)
+{
+    t->front = front;
+    made_sample(t->sample, t->time, t->head, made_reading(t->speed), pressure_of(front), present, pressure_of(rear));
+}
+
 void trip_rear(trip *t, bool present)
 {
-    uint32_t rear = made_once_in(3) ? made_below(16001) : t->front;
-    made_sample(t->sample, t->time, t->head, made_reading(t->speed), made_reading(t->front), present, made_reading(rear));
+    trip_readings(t, t->front, present, made_once_in(3) ? made_below(16001) : t->front);
 }
 
 static bool mostly_present(void)
@@ -33,17 +49,20 @@ static void make_blocks(trip *t)
     t->consist_bytes = made_blocks(t->consist, slow ? 0 : t->blocks.least, slow ? 2 : t->blocks.most);
 }
 
-/* By the default's own call, or by the one that takes the choice. */
+/* By the default's own call, or by the one that takes the choice; over noise, or over the session before. */
 static void open_session(trip *t)
 {
     uint8_t before[SESSION_ROOM];
     part consist = part_of(t->consist, t->consist_bytes);
     uint32_t everlasting = made_once_in(2) ? 0 : choices[made_below(CHOICES)];
     made_noise(before, sizeof before);
+    if (made_once_in(2))
+        memcpy(before, t->session, BUONGILACH_SESSION_BYTES);
     if (everlasting == 0 && made_once_in(2))
         try_open(part_of(before, t->session_bytes), consist, t->session);
     else
         try_open_with(part_of(before, t->session_bytes), consist, everlasting, t->session);
+    second_open_with(&t->points, t->consist, t->consist_bytes, everlasting != 0 ? SECOND_EVERLASTING : SECOND_FIVE_SECONDS);
 }
 
 static void begin(trip *t)
@@ -99,7 +118,16 @@ static uint32_t next_front(uint32_t front, uint32_t elapsed)
     return next < 0 ? 0 : next > 16000 ? 16000 : (uint32_t)next;
 }
 
-void trip_go_on(trip *t, uint32_t elapsed, bool present)
+/* The second program judges the same sample, in a session of its own. */
+static void judge_beside(trip *t)
+{
+    uint8_t decisions[BUONGILACH_BOTH_DECISIONS_BYTES];
+    second_judge(&t->points, t->sample, sizeof t->sample, t->profile, t->profile_bytes, t->targets, t->targets_bytes, decisions,
+                 sizeof decisions);
+    hold_learning(&t->points, t->session);
+}
+
+bool trip_offer(trip *t, uint32_t elapsed)
 {
     uint8_t decisions[BUONGILACH_BOTH_DECISIONS_BYTES] = {0};
     unsigned refusal =
@@ -109,12 +137,20 @@ void trip_go_on(trip *t, uint32_t elapsed, bool present)
     /* out of time, or off the profile */
     if (refusal != 0) {
         begin(t);
-        return;
+        return false;
     }
+    judge_beside(t);
     t->time = (t->time + elapsed) & 0xFFFFFF;
-    t->front = next_front(t->front, elapsed);
     t->speed = made_speed(t);
     t->head += made_below(150);
+    return true;
+}
+
+void trip_go_on(trip *t, uint32_t elapsed, bool present)
+{
+    if (!trip_offer(t, elapsed))
+        return;
+    t->front = next_front(t->front, elapsed);
     trip_rear(t, present);
 }
 

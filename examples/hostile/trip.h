@@ -23,6 +23,7 @@ extern const block_range ANY_BLOCKS, NO_BLOCKS, FEW_BLOCKS, MOST_BLOCKS;
 typedef struct {
     uint8_t session[SESSION_ROOM]; /* noise past what a session takes */
     size_t session_bytes;          /* as many as the calls are lent */
+    second_session points;         /* the second program's from the opening on, which keeps the points that teach */
     uint8_t consist[BUONGILACH_CONSIST_BYTES_MOST];
     size_t consist_bytes;
     uint8_t profile[BUONGILACH_PROFILE_BYTES_MOST];
@@ -43,6 +44,13 @@ void trip_run_away(trip *t);
 
 /* The same for a train with weak brakes on ups and downs, before targets that allow its speed or more. */
 void trip_over_hills(trip *t, block_range blocks);
+
+/* Offers the sample; accepted, the next one comes so many seconds later, its pressures still to be told. False where it was
+ * refused, and another trip has begun. */
+bool trip_offer(trip *t, uint32_t elapsed);
+
+/* The pressures of the sample that is ready. */
+void trip_readings(trip *t, uint32_t front, bool present, uint32_t rear);
 
 /* Offers the sample; accepted, the session and the sample are the next ones. */
 void trip_go(trip *t);
