@@ -9,6 +9,7 @@ pub mod Carried
 pub mod Contracts
 pub mod History
 pub mod Quiet
+pub mod Learnt
 pub mod Machine
 pub mod Emergency
 pub mod Locations

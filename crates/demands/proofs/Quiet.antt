@@ -29,11 +29,11 @@ use Rattle.demands.specs.Quiet.{Last, none-yet, value, lastWith, lastPre
 
 -- ---- the times of accepted samples
 
-abbrev Timely : List Lent → Type 0
+abbrev pub Timely : List Lent → Type 0
 Timely [] = Unit {0}
 Timely (l ∷ h) = (wrongTimeAfter h (sampleIn (l .sample)) ≡ false) × Timely h
 
-abbrev TimelyIn : Standing → Type 0
+abbrev pub TimelyIn : Standing → Type 0
 TimelyIn nothing = Unit {0}
 TimelyIn (since c h) = Timely h
 
@@ -50,7 +50,7 @@ timely-next (since c h) t (sampling l) = by (lowest (rulesAt c h l)) refl
     by Accepted e = let (_, (_, (_, (_, (_, (timely, _)))))) = none-holds (rulesAt c h l) e in (timely, t)
     by (Refused r) e = t
 
-timely-after : (st : Standing) → TimelyIn st → (ks : List Call) → TimelyIn (standingAfter st ks)
+pub timely-after : (st : Standing) → TimelyIn st → (ks : List Call) → TimelyIn (standingAfter st ks)
 unfolding standingAfter
 timely-after st t [] = t
 timely-after st t (k ∷ ks) = timely-after (next st k) (timely-next st t k) ks

@@ -9,6 +9,7 @@ pub mod Program
 pub mod Library
 pub mod History
 pub mod Quiet
+pub mod Learnt
 pub mod Demand2
 pub mod RoundTrips
 pub mod Demand3
