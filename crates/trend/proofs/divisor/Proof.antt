@@ -1,7 +1,7 @@
 -- `trend::divisor` meets its contract: the steeper slope at equalization or above it, the line's own below. Assumes nothing.
 use Prim.Native.Nat.{_^_, _<_}
 use native.Mathlib.Omega.{arith}
-use lib.IntN.{pos, natAbs, negℤ, _-ℤ_, _*ℤ_}
+use lib.IntN.{pos, natAbs, _-ℤ_, _*ℤ_}
 use mir.Syntax.{w64}
 use mir.Val.{SFits, toZ, ofZ}
 use Rattle.whole.proofs.Size.{abs-times, fits-abs}
