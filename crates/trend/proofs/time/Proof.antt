@@ -8,7 +8,7 @@ use mir.Val.{SFits, toZ, ofZ}
 use Rattle.whole.specs.Floor.{floorDiv}
 use Rattle.whole.proofs.Order.{leZ-true, leZ-false, ltZ-true, ltZ-false}
 use Rattle.whole.proofs.Size.{abs-most, abs-add, fits-abs}
-use Rattle.whole.proofs.Words.{Holds, nat-holds, fit-holds, op-fits, op-holds, both}
+use Rattle.whole.proofs.Words.{Holds, nat-holds, fit-holds, op-fits, op-holds}
 use Rattle.trend.specs.Result.{roundedUp, inRange, timeOf}
 use Rattle.trend.proofs.Words.{told, times-fits, times-holds}
 use Rattle.trend.proofs.Rounding.{Divided, divided, rounded-most, far-above, far-below}
@@ -46,7 +46,7 @@ module _ (c : tie.After-floor-div) where
   q-holds = fit-holds (sfits-of (c .floor-div .ok))
 
   q-is : q ≡ floorDiv (pos 100 *ℤ x) y
-  q-is = c .floor-div .ensures ∙ both floorDiv (hundred-holds (c .before)) (y-holds (c .before))
+  q-is = c .floor-div .ensures ∙ rw (hundred-holds (c .before) .reads, y-holds (c .before) .reads)
 
   by : Divided x y q
   by = divided x y q (c .before .pre .1 .above) q-is
