@@ -1,23 +1,24 @@
--- The points of a run fall, and where they are complete there always is a result, as there is of points that fall. Assumes nothing else.
-use mathlib.Core.Path.{_≡_, ap}
-use mathlib.Core.Bool.{true, false≢true}
+-- The points of a run fall, and where they are complete there always is a result, as there is of points that fall. Assumes nothing.
+use mathlib.Core.Path.{_≡_, refl, ap}
+use mathlib.Core.Bool.{Bool, true, false, cond, false≢true}
 use mathlib.Core.List.{List, [], _∷_}
 use Prim.Native.Nat.{ℕ, _-_, _<_}
 use native.Mathlib.Omega.{arith}
-use lib.Dec.{leb, ltb}
+use lib.Dec.{T, leb, ltb}
 use lib.ListN.{length}
 use lib.IntN.{pos}
-use lib.Signed.{_<ℤ_}
+use lib.Signed.{ltZ, _<ℤ_}
 use borrow.Author.Tests.{ltb-true, lt-ltb, lt-leb}
 use Rattle.sample.specs.declared.RearPressure.{RearPressure}
 use Rattle.sample.specs.declared.RearPressure.the-variants.{Present, Lost}
 use Rattle.trend.specs.declared.Sums.{Sums}
 use Rattle.trend.specs.declared.Learnt.{Learnt}
-use Rattle.trend.specs.declared.Learnt.the-variants.{Time}
+use Rattle.trend.specs.declared.Learnt.the-variants.{Nothing, Time}
 use Rattle.trend.specs.Points.{Point, sumsOf}
-use Rattle.trend.specs.Result.{divisor, resultOf}
+use Rattle.trend.specs.Result.{dividend, divisor, timeOf, resultOf}
 use Rattle.trend.specs.Sound.{most}
 use Rattle.trend.specs.Falling.{Falls, FallingPoints}
+use Rattle.trend.proofs.Falling.{falling-points}
 use Rattle.learn.specs.declared.Shown.{Shown}
 use Rattle.learn.specs.Learn.{Learning, Lesson, waiting, frontFell, initial, falling, done, isFrontDown, timer, isOver, isRearDown, isComplete, further, first, heard, rearOf, timed, started, inService, lessonOf}
 use Rattle.learn.specs.Suffices.{FallsTo, FallsOn, Completes, AlwaysLearns}
@@ -82,20 +83,27 @@ falls-on s time l later h = either (After s time later) (s .service) (λ _. serv
 
 -- ---- a result
 
+true-of : (b : Bool) → T b → b ≡ true
+true-of true t = refl
+true-of false t = absurd t
+
 -- of a final slope that falls
-unfoldable pub Results : Type 0
-Results = (init equ p : ℕ) (s : Sums) → pos 0 <ℤ divisor equ p s → (ms : ℕ) × (resultOf init equ p s ≡ Time ms)
+slope-gives : (init equ p : ℕ) (s : Sums) → pos 0 <ℤ divisor equ p s → (ms : ℕ) × (resultOf init equ p s ≡ Time ms)
+unfolding resultOf
+slope-gives init equ p s h =
+    let y = divisor equ p s in
+    let ms = timeOf init (dividend equ s) y in
+    (ms, ap (λ (b : Bool). cond b (Time ms) Nothing) (true-of (ltZ (pos 0) y) (h .lt)))
 
-module _ (points : FallingPoints) (results : Results) where
-  result : (init equ p : ℕ) (x last : Point) (before : List Point) → Falls (last ∷ before) → isComplete x last before ≡ true
-      → (ms : ℕ) × (resultOf init equ p (sumsOf (last ∷ before)) ≡ Time ms)
-  unfolding FallingPoints Results
-  result init equ p x last [] h complete = absurd (false≢true complete)
-  result init equ p x last (y ∷ ys) h complete = results init equ p (sumsOf (last ∷ y ∷ ys)) (points equ p last y ys h)
+points-give : (init equ p : ℕ) (x last : Point) (before : List Point) → Falls (last ∷ before) → isComplete x last before ≡ true
+    → (ms : ℕ) × (resultOf init equ p (sumsOf (last ∷ before)) ≡ Time ms)
+unfolding FallingPoints
+points-give init equ p x last [] h complete = absurd (false≢true complete)
+points-give init equ p x last (y ∷ ys) h complete = slope-gives init equ p (sumsOf (last ∷ y ∷ ys)) (falling-points equ p last y ys h)
 
-  pub always-learns-from : AlwaysLearns
-  unfolding AlwaysLearns lessonOf
-  always-learns-from s time since init p last before later h c =
-      let x : Point = record { t = timer s since - init; p = p } in
-      let (ms, e) = result init (s .equalization) p x last before (h .1) (c .complete) in
-      (ms, rw (c .service, lt-leb 600 (timer s since) (c .timely), c .rear, lt-ltb p (last .p) (c .lower), lt-leb most (length (last ∷ before)) (c .room), c .complete) (ap (λ (r : Learnt). (done, r)) e))
+pub always-learns : AlwaysLearns
+unfolding AlwaysLearns lessonOf
+always-learns s time since init p last before later h c =
+    let x : Point = record { t = timer s since - init; p = p } in
+    let (ms, e) = points-give init (s .equalization) p x last before (h .1) (c .complete) in
+    (ms, rw (c .service, lt-leb 600 (timer s since) (c .timely), c .rear, lt-ltb p (last .p) (c .lower), lt-leb most (length (last ∷ before)) (c .room), c .complete) (ap (λ (r : Learnt). (done, r)) e))

@@ -1,4 +1,4 @@
--- What is kept stays sound, and what is learnt is inside the consist's range, as the line's result is. Assumes nothing else.
+-- What is kept stays sound, and what is learnt is inside the consist's range, as the line's result is. Assumes nothing.
 use mathlib.Core.Path.{_≡_}
 use Prim.Native.Nat.{ℕ, _-_, _≤_, _<_}
 use native.Mathlib.Omega.{arith}
@@ -99,10 +99,10 @@ Held x = InRange (x .learnt)
 nothing-held : InRange Nothing
 nothing-held ms e = let z : _≡_ {A = ℕ} 0 1 = cc in absurd (omega arith)
 
-module _ (range : ResultInRange) (l : Learner) (s : Shown) where
+module _ (l : Learner) (s : Shown) where
   added-held : (t p : ℕ) → Held (addedTo l s t p)
   unfolding addedTo ResultInRange
-  added-held t p = either Held (isComplete l t p) (λ _ ms e. range (l .init) (s .equalization) p ms (l .sums) e) (λ _. nothing-held)
+  added-held t p = either Held (isComplete l t p) (λ _ ms e. result-in-range (l .init) (s .equalization) p ms (l .sums) e) (λ _. nothing-held)
 
   heard-held : (stage : Stage) (p : ℕ) → Held (heardIn stage l s p)
   unfolding heardIn furtherTo firstTo
@@ -130,9 +130,6 @@ module _ (range : ResultInRange) (l : Learner) (s : Shown) where
   stage-held Falling = timed-held
   stage-held Done = nothing-held
 
-pub learnt-in-range-from : ResultInRange → LearntInRange
-unfolding LearntInRange taughtOf
-learnt-in-range-from range l s = either Held (s .service) (λ _. stage-held range l s (l .stage)) (λ _. nothing-held)
-
 pub learnt-in-range : LearntInRange
-learnt-in-range = learnt-in-range-from result-in-range
+unfolding LearntInRange taughtOf
+learnt-in-range l s = either Held (s .service) (λ _. stage-held l s (l .stage)) (λ _. nothing-held)

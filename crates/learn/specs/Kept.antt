@@ -16,7 +16,7 @@ use Rattle.learn.specs.declared.Stage.the-variants.{Waiting, FrontFell, 
 use Rattle.learn.specs.declared.Learner.{Learner}
 use Rattle.learn.specs.declared.Shown.{Shown}
 use Rattle.learn.specs.declared.Lesson.{Lesson}
-use Rattle.learn.specs.Stage.{bare}
+use Rattle.learn.specs.Stage.{withoutPoints, bare}
 use Rattle.learn.specs.Learn.{isFrontDown, timer, isOver, isRearDown}
 
 abbrev pub lesson : Learner → Learnt → Lesson
@@ -28,10 +28,10 @@ without l = lesson l Nothing
 -- ---- what each stage keeps
 
 abbrev pub keptFell : (since : ℕ) → Learner
-keptFell since = record { stage = FrontFell; since = since; init = 0; last = 0; pressure = 0; sums = noSums }
+keptFell since = withoutPoints FrontFell since 0
 
 abbrev pub keptInitial : (since p0 : ℕ) → Learner
-keptInitial since p0 = record { stage = Initial; since = since; init = 0; last = 0; pressure = p0; sums = noSums }
+keptInitial since p0 = withoutPoints Initial since p0
 
 abbrev pub keptFalling : (since init last p : ℕ) → Sums → Learner
 keptFalling since init last p sums = record { stage = Falling; since = since; init = init; last = last; pressure = p; sums = sums }

@@ -27,9 +27,13 @@ learnerTold l =
     let s = l .sums in
     stageNumber (l .stage) ∷ l .since ∷ l .init ∷ l .last ∷ l .pressure ∷ s .count ∷ s .times ∷ s .squares ∷ s .pressures ∷ s .products ∷ []
 
--- a stage that keeps nothing
+-- a stage without points
+abbrev pub withoutPoints : Stage → (since pressure : ℕ) → Learner
+withoutPoints stage since pressure = record { stage = stage; since = since; init = 0; last = 0; pressure = pressure; sums = noSums }
+
+-- and one that keeps nothing
 abbrev pub bare : Stage → Learner
-bare stage = record { stage = stage; since = 0; init = 0; last = 0; pressure = 0; sums = noSums }
+bare stage = withoutPoints stage 0 0
 
 -- "Opening forgets it"
 abbrev pub atOpening : Learner

@@ -4,10 +4,10 @@ use trend::Learnt;
 use trend::Sums;
 ghost use mathlib.Core.Path.{_≡_};
 ghost use Prim.Native.Nat.{_<_};
-ghost use Rattle.learn.specs.Stage.{stageNumber, stageOf, bare, isAtOpening};
+ghost use Rattle.learn.specs.Stage.{stageNumber, stageOf, withoutPoints, bare, isAtOpening};
 ghost use Rattle.learn.specs.Sound.{Sound, isSound};
 ghost use Rattle.learn.specs.Learn.{isFrontDown, timer};
-ghost use Rattle.learn.specs.Kept.{without, keptFalling, addedTo, furtherTo, firstTo, heardIn, timedTo, startedBy, waitedIn, stayedIn, taughtOf};
+ghost use Rattle.learn.specs.Kept.{without, addedTo, furtherTo, firstTo, heardIn, timedTo, startedBy, waitedIn, stayedIn, taughtOf};
 
 pub enum Stage {
     Waiting,
@@ -79,19 +79,26 @@ pub fn stage_of(n: u64) -> Stage
 }
 
 impl Learner {
-    // A stage that keeps nothing.
-    pub fn bare(stage: Stage) -> Self
-        ensures { λ r. ⌜ r ≡ bare stage ⌝ }
+    // A stage without points: since the front fell, with this p0, or 0.
+    fn without_points(stage: Stage, since: u32, pressure: u16) -> Self
+        ensures { λ r. ⌜ r ≡ withoutPoints stage since pressure ⌝ }
     {
         let sums = Sums::none();
         Self {
             stage,
-            since: 0,
+            since,
             init: 0,
             last: 0,
-            pressure: 0,
+            pressure,
             sums,
         }
+    }
+
+    // A stage that keeps nothing.
+    pub fn bare(stage: Stage) -> Self
+        ensures { λ r. ⌜ r ≡ bare stage ⌝ }
+    {
+        Self::without_points(stage, 0, 0)
     }
 
     // Whether what is kept is what an opening gives.
@@ -222,17 +229,7 @@ fn heard(l: Learner, s: Shown, p: u16) -> Lesson
     let stage = l.stage;
     match stage {
         Stage::Waiting => without(l),
-        Stage::FrontFell => {
-            let sums = Sums::none();
-            without(Learner {
-                stage: Stage::Initial,
-                since: l.since,
-                init: 0,
-                last: 0,
-                pressure: p,
-                sums,
-            })
-        }
+        Stage::FrontFell => without(Learner::without_points(Stage::Initial, l.since, p)),
         Stage::Initial => first(l, s, p),
         Stage::Falling => further(l, s, p),
         Stage::Done => without(l),
@@ -259,24 +256,9 @@ fn started(s: Shown) -> Learner
     ensures { λ r. ⌜ r ≡ startedBy s (s .rear) ⌝ }
 {
     let rear = s.rear;
-    let sums = Sums::none();
     match rear {
-        RearPressure::Present(p) => Learner {
-            stage: Stage::Initial,
-            since: s.time,
-            init: 0,
-            last: 0,
-            pressure: p,
-            sums,
-        },
-        RearPressure::Lost => Learner {
-            stage: Stage::FrontFell,
-            since: s.time,
-            init: 0,
-            last: 0,
-            pressure: 0,
-            sums,
-        },
+        RearPressure::Present(p) => Learner::without_points(Stage::Initial, s.time, p),
+        RearPressure::Lost => Learner::without_points(Stage::FrontFell, s.time, 0),
     }
 }
 

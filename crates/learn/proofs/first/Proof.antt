@@ -1,5 +1,6 @@
 -- `learn::first` meets its contract. Assumes nothing.
 use mathlib.Core.Path.{_∙_}
+use Prim.Native.Nat.{_+_}
 use native.Mathlib.Omega.{arith}
 use borrow.Author.Tests.{le-leb, lt-leb}
 use borrow.Author.Needs.{needs}
@@ -10,7 +11,9 @@ use Rattle.learn.proofs.first.Tie as tie
 
 returns : tie.Need-returns
 unfolding firstTo
-returns c = rw (lt-leb _ _ (c .before .if1 .taken)) (c .without .ensures)
+returns c =
+    let a = c .before .before .before .args in
+    rw (lt-leb (a .p + 300) (a .l .pressure) (omega (arith, c .before .if1 .taken))) (c .without .ensures)
 
 with-point-requires : tie.Need-with-point-requires
 with-point-requires c κs = rw (c .none .ensures) (none-sound, omega arith)
@@ -23,7 +26,10 @@ unfolding firstTo
 returns-2 c =
     let point = c .before in
     let none = point .before in
-    rw (le-leb _ _ (none .before .before .if1 .left)) (c .without2 .ensures ∙ rw (point .with-point .ensures .0, none .none .ensures, none .before .timer .ensures))
+    let test = none .before .before in
+    let a = test .before .before .args in
+    rw (le-leb (a .p + 300) (a .l .pressure) (omega (arith, test .if1 .left)))
+    (c .without2 .ensures ∙ rw (point .with-point .ensures .0, none .none .ensures, none .before .timer .ensures))
 
 pub first-spec : {M : Type 1} → statement M
 first-spec =

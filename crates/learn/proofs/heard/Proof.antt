@@ -6,7 +6,7 @@ use Rattle.learn.specs.declared.Stage.{Stage}
 use Rattle.learn.specs.declared.Stage.the-variants.{Waiting, FrontFell, Initial, Falling, Done}
 use Rattle.learn.specs.declared.Learner.{Learner}
 use Rattle.learn.specs.declared.Shown.{Shown}
-use Rattle.learn.specs.Kept.{heardIn}
+use Rattle.learn.specs.Kept.{keptInitial, heardIn}
 use Rattle.learn.proofs.heard.Statement.{statement}
 use Rattle.learn.proofs.heard.Tie as tie
 
@@ -20,7 +20,10 @@ returns c = c .without .ensures ∙ known _ _ _ Waiting (c .before .enum-told .g
 
 returns-2 : tie.Need-returns-2
 unfolding heardIn
-returns-2 c = c .without2 .ensures ∙ rw (c .before .none .ensures) (known _ _ _ FrontFell (c .before .before .enum-told2 .given .1))
+returns-2 c =
+    let a = c .before .before .before .before .args in
+    let kept : c .before .without-points .result ≡ keptInitial (a .l .since) (a .p) = c .before .without-points .ensures in
+    c .without2 .ensures ∙ rw kept (known _ _ _ FrontFell (c .before .before .enum-told2 .given .1))
 
 returns-3 : tie.Need-returns-3
 unfolding heardIn

@@ -25,7 +25,7 @@ unfolding timedTo
 returns c =
     let test = c .before .before in
     let start = test .before .before .args in
-    c .without .ensures ∙ rw (c .before .bare .ensures) (passed _ _ _ (over (start .s) (start .l .since) _ (test .before .timer .ensures) (test .if1 .taken)))
+    c .without .ensures ∙ rw (c .before .bare .ensures) (passed _ _ _ (over (start .s) (start .l .since) _ (test .before .timer .ensures) (omega (arith, test .if1 .taken))))
 
 heard-requires : tie.Need-heard-requires
 heard-requires c κs =
@@ -37,14 +37,14 @@ unfolding timedTo
 returns-2 c =
     let test = c .before .before .before .before in
     let start = test .before .before .args in
-    c .heard .ensures ∙ rw (c .before .before .rear .given .1) (failed _ _ _ (in-time (start .s) (start .l .since) _ (test .before .timer .ensures) (test .if1 .left)))
+    c .heard .ensures ∙ rw (c .before .before .rear .given .1) (failed _ _ _ (in-time (start .s) (start .l .since) _ (test .before .timer .ensures) (omega (arith, test .if1 .left))))
 
 returns-3 : tie.Need-returns-3
 unfolding timedTo
 returns-3 c =
     let test = c .before .before .before in
     let start = test .before .before .args in
-    c .without2 .ensures ∙ rw (c .before .enum-told .given .1) (failed _ _ _ (in-time (start .s) (start .l .since) _ (test .before .timer .ensures) (test .if1 .left)))
+    c .without2 .ensures ∙ rw (c .before .enum-told .given .1) (failed _ _ _ (in-time (start .s) (start .l .since) _ (test .before .timer .ensures) (omega (arith, test .if1 .left))))
 
 pub timed-spec : {M : Type 1} → statement M
 timed-spec =

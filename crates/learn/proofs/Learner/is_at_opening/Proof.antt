@@ -1,4 +1,5 @@
 -- `Learner::is_at_opening` meets its contract. Assumes nothing.
+use mathlib.Core.Path.{refl}
 use Rattle.learn.specs.Stage.{isAtOpening}
 use borrow.Author.Needs.{needs}
 use Rattle.learn.proofs.Learner.is_at_opening.Statement.{statement}
@@ -10,7 +11,7 @@ at-number c = c .before .before .before .before .before .before .before .before 
 
 returns : tie.Need-returns
 unfolding isAtOpening
-returns c = rw (at-number c .stage-number .ensures)
+returns c = rw (at-number c .stage-number .ensures) refl
 
 pub is-at-opening-spec : {M : Type 1} → statement M
 is-at-opening-spec = tie.close (tie.spec (λ c κs. search needs) returns)
