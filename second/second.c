@@ -20,12 +20,14 @@
  *
  * With -DSECOND_HUNDREDTHS the average grade and its force are document 01's, in
  * hundredths of a percent, in place of R-11's, to the same end (decision 132).  With
- * -DSECOND_EVENLY the weight is spread evenly, whatever the blocks (decision 143).  Each
- * switch stands by itself, and all may be given.
+ * -DSECOND_EVENLY the weight is spread evenly, whatever the blocks (decision 143).  With
+ * -DSECOND_TYPED the application time is the typed one, whatever the pipe teaches
+ * (decision 166).  Each switch stands by itself, and all may be given.
  *
  * It takes the direct way everywhere: fields bit by bit, one walk for the stop,
  * one more for each target and one for emergency, each kept from its first head to
- * its last, the whole profile looked through at every step, and once for each block.
+ * its last, the whole profile looked through at every step, and once for each block; every
+ * point of a falling rear kept, and summed up anew at the next one.
  * Each function is headed by the phrase of 01, or of a request of 02, that it does;
  * "decision 8" is a point of docs/DECISIONS.md.  There is no floating point.
  *
@@ -52,6 +54,7 @@
 #include "averages.c"
 #include "walk.c"
 #include "emergency.c"
+#include "learn.c"
 #include "session.c"
 #ifndef SECOND_NO_MAIN
 #include "program.c"

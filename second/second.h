@@ -24,6 +24,7 @@ enum {
     SECOND_PROFILE_LEAST = 2,
     SECOND_PROFILE_MOST = 257,
     SECOND_TARGETS_MOST = 8,
+    SECOND_POINTS_MOST = 256,   /* of a falling rear pressure */
     SECOND_NO_STOP = 16777215
 };
 
@@ -53,7 +54,42 @@ typedef struct {
     int64_t heard_at;      /* the time of the last such one; 0 for never */
 } second_brakes;
 
-/* A session.  All zero is "no session is open". */
+/* How far learning the application time has come (02, R-3). */
+typedef enum {
+    SECOND_WAITING,        /* for the front to fall */
+    SECOND_FRONT_FELL,     /* no rear was present since then: no p0 yet */
+    SECOND_REAR_KNOWN,     /* there is p0, and no point yet */
+    SECOND_REAR_FALLS,     /* there are points */
+    SECOND_DONE            /* with a result or without, until the front is up again */
+} second_stage;
+
+/* What is recorded for it: the points themselves, t in seconds since the first of them.
+ * All zero is waiting. */
+typedef struct {
+    second_stage stage;
+    int64_t fell_at;       /* the time of the sample at which the front fell */
+    int64_t p0;
+    int64_t t_init;        /* from there to the first point, in seconds */
+    int64_t points;
+    int64_t t[SECOND_POINTS_MOST], p[SECOND_POINTS_MOST];
+} second_learner;
+
+/* Of some points how many they are, and the sums of t, t x t, p and t x p. */
+typedef struct {
+    int64_t n, t, tt, p, tp;
+} second_point_sums;
+
+/* A learner with sums in the place of its points.  What a stage has no use for is 0. */
+typedef struct {
+    second_stage stage;
+    int64_t fell_at, t_init;
+    int64_t last_t;        /* the last point's t */
+    int64_t pressure;      /* the last point's p; without points p0 */
+    second_point_sums sums;
+} second_learning;
+
+/* A session.  All zero is "no session is open".  The train's application time is the one in
+ * force, typed or learnt. */
 typedef struct {
     int open;
     int begun;             /* a sample has been accepted */
@@ -61,6 +97,7 @@ typedef struct {
     second_brakes brakes;
     int64_t cause;         /* 0, or the place of the target that called the penalty */
     int64_t emergency;     /* 0, or the place of the target that called emergency */
+    second_learner learner;
 } second_session;
 
 /* The profile and the targets, read into numbers. */
@@ -134,6 +171,16 @@ second_prediction second_predict_emergency(const second_session *session,
                                            const second_sample *sample,
                                            const second_profile *profile,
                                            const second_targets *targets);
+
+/*
+ * Learning, for users that hold sums: what is told of a learner; whether the fall ends with a
+ * last point that is so far from the one before, given the sums over all points, this one too;
+ * and the time in ms that it teaches, given the sums over the points before it, or 0 for none.
+ */
+second_learning second_learning_of(const second_learner *learner);
+int second_levels_off(const second_point_sums *all, int64_t p_change, int64_t t_change);
+int64_t second_learnt_time(const second_point_sums *before, int64_t t_init, int64_t last_p,
+                           int64_t equalization);
 
 /* What a sample of 20 bytes is refused for: 1, or 0 for 3 and for 8. */
 int second_sample_well_formed(const unsigned char *bytes);

@@ -3,8 +3,8 @@
  */
 
 /* "Opening gives state 0, hold = A = set, B = 0, fall 0, equalization 0", and the choice
- * with the rear never yet heard (02, R-7).  "Opening uses 2, 4 and 5", and 13 for the
- * blocks (02, R-1); "if refused, an earlier session stays as it was." */
+ * with the rear never yet heard (02, R-7), and nothing learnt (02, R-3).  "Opening uses 2, 4
+ * and 5", and 13 for the blocks (02, R-1); "if refused, an earlier session stays as it was." */
 int second_open_with(second_session *session, const unsigned char *bytes, size_t count,
                      second_choice choice)
 {
@@ -128,6 +128,9 @@ int second_judge(second_session *session,
     second_decision first = second_decide(0, &after, &sample, after.cause, penalty.stop);
     second_decision second = second_decide(1, &after, &sample, after.emergency, emergency.stop);
     second_write_both(output, &first, &second);
+
+    /* "The learnt time serves from the next sample" (02, R-3). */
+    second_learn(&after, &sample);
     *session = after;
     return 0;
 }

@@ -111,9 +111,14 @@ class Brakes(ctypes.Structure):
         "last_time")] + [(name, ctypes.c_int) for name in ("choice", "heard")] + [("heard_at", ctypes.c_int64)]
 
 
+class Learner(ctypes.Structure):
+    _fields_ = [("stage", ctypes.c_int)] + [(name, ctypes.c_int64) for name in ("fell_at", "p0", "t_init", "points")] \
+        + [(name, ctypes.c_int64 * 256) for name in ("t", "p")]
+
+
 class Session(ctypes.Structure):
-    _fields_ = [("open", ctypes.c_int), ("begun", ctypes.c_int), ("train", Consist),
-                ("brakes", Brakes), ("cause", ctypes.c_int64), ("emergency", ctypes.c_int64)]
+    _fields_ = [("open", ctypes.c_int), ("begun", ctypes.c_int), ("train", Consist), ("brakes", Brakes),
+                ("cause", ctypes.c_int64), ("emergency", ctypes.c_int64), ("learner", Learner)]
 
 
 class Profile(ctypes.Structure):
