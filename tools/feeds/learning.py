@@ -124,7 +124,7 @@ def sudden(draw, pipe):
     """A rear that is below equalization at its first point already."""
     rate = draw.between(5, 30)
     pipe.apply(pipe.full * 2 // 7 + draw.between(1000, 2000))
-    pipe.go(draw.between(1, 5), rear=5 * pipe.full // 7 - draw.between(1, 900))
+    pipe.go(draw.between(1, 5), rear=5 * pipe.full // 7 - draw.pick((draw.between(1, 900), draw.between(500, 900))))
     pipe.fall(draw.between(2, 5), rate)
     pipe.level(rate)
 
@@ -139,12 +139,12 @@ def faint(draw, pipe):
     pipe.go(draw.between(2, 5), rear=pipe.rear - 1)
 
 
-def held(draw, pipe):
-    """A rear that levels off about 600 seconds after the front fell."""
+def levels_off_after(draw, pipe, seconds):
+    """A rear that levels off so long after the front fell; what it does then teaches nothing."""
+    rate = draw.between(15, 100)
     pipe.apply(draw.between(500, 2500))
-    end, rate = LONGEST + draw.pick((-1, -1, 0, 0, 1, 4)), draw.between(15, 100)
-    while pipe.since < end - 12:
-        pipe.go(min(5, end - 12 - pipe.since))
+    while pipe.since < seconds - 12:
+        pipe.go(min(5, seconds - 12 - pipe.since))
     pipe.go(4, rear=pipe.rear - FALL)
     for _ in range(3):
         pipe.go(2, rear=pipe.rear - 2 * rate)
@@ -153,16 +153,34 @@ def held(draw, pipe):
     pipe.level(rate)
 
 
-def many(draw, pipe):
-    """A rear that falls evenly for more points than are kept, and then levels off."""
+def in_time(draw, pipe):
+    """The last second that teaches."""
+    levels_off_after(draw, pipe, LONGEST - 1)
+
+
+def too_late(draw, pipe):
+    levels_off_after(draw, pipe, LONGEST + draw.pick((0, 0, 1, 4)))
+
+
+def falls_evenly(draw, pipe, points):
+    """A rear that falls evenly for so many points, and then levels off."""
     rate = draw.between(1, 8)
     pipe.apply(draw.between(500, 2500))
     pipe.go(draw.between(1, 5), rear=pipe.rear - FALL)
-    for _ in range(MOST_POINTS + draw.pick((-2, -1, 0, 3))):
+    for _ in range(points - 1):
         wait = draw.pick((1, 1, 2))
         pipe.go(wait, rear=pipe.rear - wait * rate)
     pipe.go(5, rear=pipe.rear - 1)
     pipe.hold(5)
+
+
+def most_points(draw, pipe):
+    """The last point that is kept is the one that levels off."""
+    falls_evenly(draw, pipe, MOST_POINTS - 1)
+
+
+def too_many_points(draw, pipe):
+    falls_evenly(draw, pipe, MOST_POINTS + draw.pick((0, 1, 4)))
 
 
 def released(draw, pipe):
@@ -182,7 +200,7 @@ def emptied(draw, pipe):
     pipe.hold(draw.between(8, 20))
 
 
-LESSONS = (plain, many, released, half, deep, held, emptied, sudden, crept, faint)
+LESSONS = (plain, too_many_points, released, half, deep, too_late, emptied, sudden, crept, faint, in_time, most_points)
 
 
 def near_the_brink(draw, feed, head, speed):
@@ -197,7 +215,8 @@ def learning(draw, number):
     learnt, and learnt anew, and often changes a call; with silences, releases and
     emergencies, 600 seconds, more points than are kept, slopes of one half."""
     train = draw_train(draw)
-    train.update({"application": draw.between(5000, 120000), "recharge": draw.between(200, 1000)})
+    train.update({"application": draw.pick((draw.between(5000, 30000), draw.between(20000, 120000))),
+                  "recharge": draw.between(200, 1000)})
     pipe = Pipe(draw, train["set"])
     for lesson in (LESSONS[number % len(LESSONS)], plain):
         lesson(draw, pipe)
