@@ -116,6 +116,15 @@ class Learner(ctypes.Structure):
         + [(name, ctypes.c_int64 * 256) for name in ("t", "p")]
 
 
+class PointSums(ctypes.Structure):
+    _fields_ = [(name, ctypes.c_int64) for name in ("n", "t", "tt", "p", "tp")]
+
+
+class Learning(ctypes.Structure):
+    _fields_ = [("stage", ctypes.c_int)] + [(name, ctypes.c_int64) for name in ("fell_at", "t_init", "last_t", "pressure")] \
+        + [("sums", PointSums)]
+
+
 class Session(ctypes.Structure):
     _fields_ = [("open", ctypes.c_int), ("begun", ctypes.c_int), ("train", Consist), ("brakes", Brakes),
                 ("cause", ctypes.c_int64), ("emergency", ctypes.c_int64), ("learner", Learner)]
