@@ -116,7 +116,7 @@ class FirstApplication:
 
     def take(self, state):
         """Its equalization; None from where another application may have begun on."""
-        if not self.last <= state <= HOLDING:
+        if state < self.last:
             self.equalization = None
         self.last = state
         return self.equalization
