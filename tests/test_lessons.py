@@ -86,8 +86,8 @@ class Learnt(unittest.TestCase):
         self.assertEqual(lessons(PIPE, (1, 1, 1, 1, 2, 2, 2, 2)), [(7, "learnt", 35742)])
 
     def test_refused_samples_teach_nothing(self):
-        pipe = [*PIPE[:5], (13, 8000, 8000), *PIPE[5:]]
-        self.assertEqual(lessons(pipe, (*STATES[:5], REFUSED, *STATES[5:])), [(8, "learnt", 35742)])
+        pipe = [*PIPE[:3], (12, 8000, 8000), *PIPE[3:]]
+        self.assertEqual(lessons(pipe, (*STATES[:3], REFUSED, *STATES[3:])), [(8, "learnt", 35742)])
         self.assertEqual(lessons(PIPE, (*STATES[:7], REFUSED)), [])
 
 
@@ -117,13 +117,13 @@ class Steps(unittest.TestCase):
                          [(1, "silent as the front falls", None), (8, "learnt", 35742)])
         # before the rear falls it is nothing; while it falls it is told
         self.assertEqual(lessons([*PIPE[:2], (6, 8000, None), *PIPE[2:]], (0, 1, *STATES[1:])), [(8, "learnt", 35742)])
-        pipe = [*PIPE[:6], (14, 8000, None), (15, 8000, None), *PIPE[7:]]
-        self.assertEqual([one[:2] for one in lessons(pipe, in_service(pipe))],
-                         [(6, "lost while it falls"), (7, "lost while it falls")])
+        pipe = [*PIPE[:5], (14, 8000, None), *PIPE[6:]]
+        self.assertEqual(lessons(pipe, STATES), [(5, "lost while it falls", None), (7, "learnt", 35742)])
 
     def test_rises_are_nothing(self):
-        pipe = [*PIPE[:5], (13, 8000, 8560), (14, 8000, 8550), *PIPE[6:]]
-        self.assertEqual([one[:2] for one in lessons(pipe, in_service(pipe))], [(8, "learnt")])
+        # the line over four points is the same
+        for rear in (8560, 8550):
+            self.assertEqual(lessons([*PIPE[:5], (14, 8000, rear), *PIPE[6:]], STATES), [(7, "learnt", 35742)])
 
     def test_cut(self):
         for state, shown in ((5, "cut by a release"), (3, "cut by an emergency")):
@@ -166,6 +166,12 @@ class Counted(unittest.TestCase):
             self.assertEqual(list(feeds.lessons(whole[:end], said(*STATES))), [])
         self.assertEqual(len(list(feeds.lessons(whole, said(*STATES)))), 1)
         self.assertEqual(list(feeds.lessons(whole, b"gone\n\xff\n")), [])
+
+    def test_times_that_no_right_program_accepts(self):
+        # as they were, or before
+        for time in (11, 5):
+            pipe = [*PIPE[:3], *((time, 8000, rear) for _, _, rear in PIPE[3:])]
+            self.assertEqual(lessons(pipe, STATES), [])
 
     NAMES = {"learnt": "a time learnt", "learnt anew": "a time learnt anew", "ended by 600 s": "a lesson ended by 600 s",
              "ended by the 257th point": "a lesson ended by the 257th point",

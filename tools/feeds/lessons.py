@@ -128,8 +128,11 @@ def lessons(feed, output):
     if not samples:                # the feed may end before its consist does
         return
     full = consist_of(feed)["set"]
-    learner, first = Learner(full), FirstApplication(full)
+    learner, first, last = Learner(full), FirstApplication(full), -1
     for one in samples:
+        if one.time <= last:       # no right program accepts it
+            continue
+        last = one.time
         shows, equalization = learner.take(one), first.take(one.state)
         if shows:
             known = shows == LEARNT and equalization is not None
