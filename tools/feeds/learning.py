@@ -86,13 +86,13 @@ def plain(draw, pipe):
 
 
 def half(draw, pipe):
-    """Three seconds, at the third of which the slope is half of the line's."""
-    third = draw.between(5, 60)
+    """Falls of 3, 2 and 1 parts, at the last of which the slope is half of the line's."""
+    part = draw.between(5, 60)
     pipe.apply(draw.between(500, 2500))
     pipe.go(draw.between(1, 5), rear=pipe.rear - FALL)
-    for thirds in (3, 2, 1, 1):
-        pipe.go(1, rear=pipe.rear - thirds * third)
-    pipe.level(third)
+    for parts in (3, 2, 1, 1):
+        pipe.go(1, rear=pipe.rear - parts * part)
+    pipe.level(part)
 
 
 def crept(draw, pipe):
