@@ -20,6 +20,8 @@ FIRST_CROSSING = "-DSECOND_FIRST_CROSSING"
 HUNDREDTHS = "-DSECOND_HUNDREDTHS"
 # With the weight spread evenly, as it has it without R-1.
 EVENLY = "-DSECOND_EVENLY"
+# With the typed application time, as it has it without R-3.
+TYPED = "-DSECOND_TYPED"
 
 
 @functools.cache

@@ -37,6 +37,15 @@ class Texts(unittest.TestCase):
             self.assertEqual(run(feeds.make(words), words=EVERLASTING), stated)
 
 
+    def test_every_change_of_state(self):
+        # those that 01 knows
+        changes = {"01", "03", "12", "13", "15", "21", "23", "25", "34", "45", "50", "51", "53"}
+        data = feeds.make(example("figures/trip-every-change"))
+        for words in ((), EVERLASTING):
+            states = [first.split()[1] for first, _ in feeds.answers(run(data, words=words).splitlines())]
+            self.assertEqual({one + other for one, other in zip(states, states[1:]) if one != other}, changes)
+
+
 class Figures(unittest.TestCase):
 
     def test_args(self):

@@ -1,4 +1,5 @@
-"""Tests of tools/compare: what is compared and counted; test_compare_choices has what it makes of the two choices."""
+"""Tests of tools/compare: what is compared and counted; test_compare_choices has what it makes of the two choices, and
+test_compare_typed what it makes of a learnt time."""
 
 import os
 import unittest
@@ -22,6 +23,7 @@ class Compare(Comparing):
         self.assertNotIn("rises", out)
         self.assertNotIn("finer", out)
         self.assertNotIn("weighed", out)
+        self.assertNotIn("\nlearnt ", out)
 
     def test_difference_is_saved(self):
         first = 100

@@ -248,8 +248,9 @@ class Broken(unittest.TestCase):
         self.assertGreater(max(ends), 17)
 
     def test_other_kinds_have_blocks(self):
-        for kind in ("trip", "brakes", "light", "grades", "brink", "runaway", "emergency", "undulating", "damaged", "edges"):
-            counts = [records.block_count(feeds.random_feed(seed, kind)) for seed in range(100)]
+        for kind in ("trip", "brakes", "light", "grades", "brink", "runaway", "emergency", "undulating", "damaged", "edges", "quiet",
+                     "learning"):
+            counts = [records.block_count(feeds.random_feed(seed, kind)) for seed in range(150)]
             with self.subTest(kind=kind):
                 self.assertGreater(len([count for count in counts if count]), 5)
                 self.assertGreater(counts.count(0), 40)

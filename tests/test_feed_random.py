@@ -8,7 +8,7 @@ from here import feeds
 from second_program import run as second, told
 
 # Of the feeds of seeds 0 to 199; changes only when the generator is changed on purpose.
-DIGEST = "485169f28aafc5c5360490ad1ef6f5c36c54cf9e35f05054d554016a10b2d87b"
+DIGEST = "86962145f6a7a449c148d5fca133efcd3211cdbd0dbc420d6f2a31cf658b6a45"
 
 
 class Random(unittest.TestCase):

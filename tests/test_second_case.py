@@ -2,7 +2,7 @@
 
 import unittest
 
-from built import FIRST_CROSSING, HUNDREDTHS
+from built import FIRST_CROSSING, HUNDREDTHS, TYPED
 from here import example, examples, feeds
 from second_program import CASE, both, run, told
 
@@ -62,6 +62,12 @@ class Examples(unittest.TestCase):
         self.assertEqual(self.otherwise(HUNDREDTHS), ["manifest", "rolling-hills", "trip", "figures/finer-grade",
                                                       "figures/manifest-one-block", "figures/manifest-sag",
                                                       "figures/rise-past-target", "figures/trip-no-call"])
+
+    def test_where_the_typed_time_answers_otherwise(self):
+        # R-3 (02).  The trip learns what is typed.
+        self.assertEqual(self.otherwise(TYPED), ["learning", "figures/learn-half-waits", "figures/learn-levels-off",
+                                                 "figures/trip-eighth-target", "figures/trip-every-change",
+                                                 "figures/trip-no-call"])
 
     def test_finer_grade_in_hundredths(self):
         # Document 01's average of -0.47 hundredths, down: the train rolls 16 ft further.

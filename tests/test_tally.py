@@ -14,24 +14,31 @@ class Tally(unittest.TestCase):
         weighed = {"call more": "a call more by weight", "call less": "a call less by weight",
                    "farther": "a farther stop by weight", "nearer": "a nearer stop by weight"}
         last = "a parting of the choices by none yet"
-        for count, named in ((feeds.first_crossing, rises), (feeds.hundredths, finer), (feeds.evenly, weighed)):
+        learnt = {shown: name.replace("by weight", "by a learnt time") for shown, name in weighed.items()}
+        for count, named in ((feeds.first_crossing, rises), (feeds.hundredths, finer), (feeds.evenly, weighed),
+                             (feeds.unlearnt, learnt)):
             self.assertEqual(feeds.Tally(2, [count()]).missing()[-len(named) - 1:], [last, *named.values()])
             for shown, name in named.items():
                 one = count()
                 one.feeds[shown] += 1
                 self.assertEqual(one.missing(), [other for other in named.values() if other != name])
-        every = feeds.Tally(2, [feeds.first_crossing(), feeds.hundredths(), feeds.evenly()]).missing()
-        self.assertEqual(every[-10:], [last, *rises.values(), *finer.values(), *weighed.values()])
+        every = feeds.Tally(2, [feeds.first_crossing(), feeds.hundredths(), feeds.evenly(), feeds.unlearnt()]).missing()
+        self.assertEqual(every[-14:], [last, *rises.values(), *finer.values(), *weighed.values(), *learnt.values()])
 
     def test_what_was_never_seen(self):
         sizes = ["a sample with 1 block", "a sample with 2 to 63 blocks", "a sample with 64 blocks"]
         silences = ["a silence kept at 5 s", "a silence given up at 6 s", "a silence with none yet",
                     "a silence kept while recharging", "a silence that counts as front while recharging"]
-        last = [*sizes, *silences, "a parting of the choices by a value given up", "a parting of the choices by none yet"]
-        self.assertEqual(feeds.Tally(2).missing()[-12:], ["a runaway", "a slight descent", *last])
+        lessons = ["a time learnt", "a time learnt anew", "a lesson ended by 600 s", "a lesson ended by the 257th point",
+                   "a rear silent as the front falls", "a rear lost while it falls", "a lesson cut by a release",
+                   "a lesson cut by an emergency", "a slope of one half", "a time learnt below equalization",
+                   "a time held at 1,000", "a time held at 240,000"]
+        last = [*sizes, *silences, *lessons, "a parting of the choices by a value given up",
+                "a parting of the choices by none yet"]
+        self.assertEqual(feeds.Tally(2).missing()[-24:], ["a runaway", "a slight descent", *last])
         seen = feeds.Tally(2)
         seen.slight += 1
-        self.assertEqual(seen.missing()[-11:], ["a runaway", *last])
+        self.assertEqual(seen.missing()[-23:], ["a runaway", *last])
         for said, named in (("x 10", "refusal 10"), ("x 13", "refusal 13")):
             seen = feeds.Tally(2)
             self.assertIn(named, seen.missing())
@@ -47,10 +54,10 @@ class Tally(unittest.TestCase):
         for garbage in (b"gone\xff\n", b"0 0 0 0 %s\n" % (5000 * b"9"), b"x %s\n" % (5000 * b"9"), b"\n\n", b"1 1 1 1 1\n1",
                         b"x\n"):
             for output, other in ((garbage, good), (good, garbage), (garbage, garbage)):
-                tally = feeds.Tally(1, [feeds.first_crossing(), feeds.hundredths(), feeds.evenly()])
+                tally = feeds.Tally(1, [feeds.first_crossing(), feeds.hundredths(), feeds.evenly(), feeds.unlearnt()])
                 tally.add(feed, output)
                 rules = (*tally.earlier, tally.choices)
-                self.assertEqual([one.add(feed, output, other) for one in rules], 4 * [output == other])
+                self.assertEqual([one.add(feed, output, other) for one in rules], 5 * [output == other])
                 self.assertIn("compared 1 feeds", tally.table())
 
 

@@ -6,6 +6,7 @@ from .damage import cut, damaged
 from .edges import edges
 from .emergencies import emergency
 from .grades import grades
+from .learning import learning
 from .manifests import manifest
 from .pipes import brakes
 from .quiet import quiet
@@ -16,14 +17,14 @@ from .undulations import undulating
 # Their order is part of what a seed means.
 KINDS = {"trip": trip, "brakes": brakes, "edges": edges, "light": light, "grades": grades,
          "brink": brink, "damaged": damaged, "cut": cut, "runaway": runaway, "emergency": emergency,
-         "undulating": undulating, "manifest": manifest, "quiet": quiet}
+         "undulating": undulating, "manifest": manifest, "quiet": quiet, "learning": learning}
 KIND_NAMES = tuple(KINDS)
 
 # Where no kind is named the seeds go round this list, so that any few hundred
 # seeds in a row hold each kind in its share.
 ROUND = ("trip", "brakes", "light", "edges", "manifest", "damaged", "trip", "quiet", "grades", "undulating",
-         "edges", "trip", "brink", "manifest", "brakes", "cut", "edges", "quiet", "light", "undulating", "manifest",
-         "brakes", "damaged", "edges", "grades", "trip", "brink", "runaway", "emergency", "undulating")
+         "learning", "trip", "brink", "manifest", "brakes", "cut", "edges", "quiet", "light", "undulating", "manifest",
+         "learning", "damaged", "edges", "grades", "trip", "brink", "runaway", "emergency", "undulating")
 
 
 def kind_of(seed):

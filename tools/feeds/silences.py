@@ -3,9 +3,7 @@ choice; and the silences that a comparison meets."""
 
 from collections import Counter, namedtuple
 
-from .answers import DECISION, UNLIKE, answers_of, first_lines
-from .binary32 import value_of
-from .records import SAMPLE_BYTES, SAMPLE_WIDTHS, split, unpack
+from .answers import DECISION, UNLIKE, accepted, answers_of
 
 KEPT_FOR = 5                       # seconds
 CHARGING = "5"                     # the brake state
@@ -35,27 +33,14 @@ class Rear:
         return (KEPT, seconds, False) if seconds <= KEPT_FOR else (GIVEN_UP, seconds, front != self.last)
 
 
-def hundredths(bits):
-    """A pressure as it counts."""
-    return 100 * value_of(bits) // 1
-
-
 def silences(feed, output):
     """A Silence for each accepted sample without a rear.  The output may be any program's, right or not."""
-    try:
-        samples = split(feed)[3]
-    except IndexError:             # it ends before its samples
-        return
     rear = Rear()
-    for place, (line, record) in enumerate(zip(first_lines(output), samples)):
-        accepted = DECISION.fullmatch(line)
-        if not accepted or len(record) < SAMPLE_BYTES:
-            continue
-        _, time, present, _, _, _, front, value = unpack(record, SAMPLE_WIDTHS)
-        if present:
-            rear.heard, rear.last = time, hundredths(value)
+    for one in accepted(feed, output):
+        if one.rear is None:
+            yield Silence(one.place, *rear.lost(one.time, one.front), one.state)
         else:
-            yield Silence(place, *rear.lost(time, hundredths(front)), accepted[1][-1])
+            rear.heard, rear.last = one.time, one.rear
 
 
 def same_time(pair, other):

@@ -2,12 +2,14 @@
 
 from collections import Counter
 
-from .answers import UNLIKE, answers_of
+from .answers import EITHER_WAY, UNLIKE, answers_of
 from .finer import FINER, finer, slight_descents
+from .lessons import LessonsSeen
 from .rises import RISES, rise
 from .runaways import runaways
 from .silences import CHOICES, SilencesSeen, parting
-from .weighing import WEIGHED, BlocksSeen, weighed
+from .typed import typed
+from .weighing import BlocksSeen, weighed
 
 STATES = range(0, 6)
 CAUSES = range(1, 9)
@@ -72,9 +74,16 @@ def hundredths():
 
 def evenly():
     """A program that spreads the weight evenly in place of R-1's blocks."""
-    return Earlier("weighed", weighed, WEIGHED, {
+    return Earlier("weighed", weighed, EITHER_WAY, {
         "call more": "a call more by weight", "call less": "a call less by weight", "farther": "a farther stop by weight",
         "nearer": "a nearer stop by weight"})
+
+
+def unlearnt():
+    """A program that keeps the typed time in place of R-3's learnt one."""
+    return Earlier("learnt", typed, EITHER_WAY, {
+        "call more": "a call more by a learnt time", "call less": "a call less by a learnt time",
+        "farther": "a farther stop by a learnt time", "nearer": "a nearer stop by a learnt time"})
 
 
 def everlasting():
@@ -98,6 +107,7 @@ class Tally:
         self.kinds = Counter()
         self.blocks = BlocksSeen()
         self.silences = SilencesSeen()
+        self.lessons = LessonsSeen()
         self.choices = everlasting()
         self.earlier = list(earlier)
         # by default, those of the earlier rules too; then under the everlasting choice
@@ -108,6 +118,7 @@ class Tally:
         self.runaways += runaways(feed, output)
         self.slight += slight_descents(feed, output)
         self.silences.add(feed, output)
+        self.lessons.add(feed, output)
         standing, before = 0, self.accepted()
         for first, second in answers_of(output):
             lines = 1 + (second is not None)
@@ -158,6 +169,7 @@ class Tally:
                 + ["a slight descent"] * (not self.slight)
                 + self.blocks.missing()
                 + self.silences.missing()
+                + self.lessons.missing()
                 + self.choices.missing()
                 + [name for one in self.earlier for name in one.missing()])
 
@@ -179,6 +191,7 @@ class Tally:
             "slight    %d" % self.slight,
             self.blocks.row(),
             self.silences.row(),
+            self.lessons.row(),
             self.choices.row(),
         ] + [one.row() for one in self.earlier] + [
             "exits     " + self.exits(self.ends[:-self.programs]),

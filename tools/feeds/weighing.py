@@ -3,29 +3,17 @@ meets."""
 
 from collections import Counter
 
-from .answers import UNLIKE, differences
+from .answers import EITHER_WAY, UNLIKE, differences, either_way
 from .records import MOST_BLOCKS, block_count
 
-# What a feed shows: the first of these that any of its samples does.  Neither: they part by cause or emergency alone.
-WEIGHED = ("call more", "call less", "farther", "nearer", "neither")
 # How many blocks accepted samples have: what that is called, the least and the most.
 SIZES = (("1", 1, 1), ("2 to 63", 2, MOST_BLOCKS - 1), ("64", MOST_BLOCKS, MOST_BLOCKS))
-
-
-def show(calls, farther):
-    """What a sample shows that the two answer otherwise.  Weight may lie anywhere: a stop is nearer or farther, and a call comes
-    or does not."""
-    if calls:
-        return "call more" if calls > 0 else "call less"
-    if farther:
-        return "farther" if farther > 0 else "nearer"
-    return "neither"
 
 
 def weighed(feed, output, even):
     """How many samples a program answers otherwise than one that spreads the weight evenly, and what they show.  Without blocks
     it is spread evenly, and one block answers as none."""
-    samples, shown = differences(output, even, show, WEIGHED)
+    samples, shown = differences(output, even, either_way, EITHER_WAY)
     return samples, UNLIKE if shown and block_count(feed) < 2 else shown
 
 
