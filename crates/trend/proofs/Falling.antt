@@ -57,7 +57,7 @@ under t p y (z ∷ zs) h k f =
 
 next : (x y : Point) (ys : List Point) → Falls (x ∷ y ∷ ys) → Level (sumsOf (y ∷ ys)) → Steep (sumsOf (x ∷ y ∷ ys))
 unfolding Falls
-next x y ys f l = rw (sums-with x (y ∷ ys)) (one-more (x .t) (x .p) (sumsOf (y ∷ ys)) l (under (x .t) (x .p) y ys (f .0) (f .1) (f .2)))
+next x y ys f l = rw (sums-with x (y ∷ ys)) (one-more (x .t) (x .p) (sumsOf (y ∷ ys)) l (under (x .t) (x .p) y ys (omega (arith, f .0)) (omega (arith, f .1)) (f .2)))
 
 level : (x : Point) (ys : List Point) → Falls (x ∷ ys) → Level (sumsOf (x ∷ ys))
 unfolding sumsOf Falls

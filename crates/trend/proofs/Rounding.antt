@@ -1,6 +1,6 @@
 -- 100,000 X / Y, rounded up, from 100 X / Y, down, and what that leaves. Assumes nothing.
-use mathlib.Core.Path.{_≡_, refl, sym, ap, _∙_}
-use Prim.Native.Nat.{ℕ, _+_, _*_, _-_, _≤_, _<_, min, max}
+use mathlib.Core.Path.{_≡_, sym, ap, _∙_}
+use Prim.Native.Nat.{ℕ, _+_, _*_, _-_, _≤_, _<_}
 use native.Mathlib.Nat.{div-add-mod'}
 use native.Mathlib.Omega.{arith}
 use lib.IntN.{ℤ, pos, negsuc, negℤ, natAbs, _+ℤ_, _-ℤ_, _*ℤ_}
@@ -9,10 +9,10 @@ use Rattle.whole.specs.Floor.{floorDiv, cut}
 use Rattle.whole.specs.Ceiling.{ceilDiv}
 use Rattle.whole.proofs.Parts.{up, dn, AtMost, Below, up-mono, dn-mono, parts-eq, add-parts, sub-parts, neg-up, neg-dn, times-up, times-dn}
 use Rattle.whole.proofs.Order.{lt-parts}
-use Rattle.whole.proofs.Size.{abs-parts, abs-add, abs-times}
+use Rattle.whole.proofs.Size.{abs-add, abs-times}
 use Rattle.whole.proofs.Floors.{floor-low, floor-high, floor-parts}
 use Rattle.whole.proofs.Ceilings.{ceil-ge, ceil-least}
-use Rattle.trend.specs.Result.{roundedUp, inRange, timeOf}
+use Rattle.trend.specs.Result.{roundedUp, timeOf}
 
 neg-neg : (z : ℤ) → negℤ (negℤ z) ≡ z
 neg-neg z = parts-eq (negℤ (negℤ z)) z (omega (arith, neg-up z, neg-dn z, neg-up (negℤ z), neg-dn (negℤ z)))

@@ -51,7 +51,7 @@ impl Sums {
         ensures { λ r. ⌜ r ≡ isSound self ⌝ }
     {
         let n = self.count as u64;
-        (n <= 256)
+        (self.count <= Self::MOST)
             & (self.times as u64 <= 599 * n)
             & (self.squares as u64 <= 358_801 * n)
             & (self.pressures as u64 <= 16_000 * n)

@@ -1,7 +1,7 @@
 -- `trend::divisor` meets its contract: the steeper slope at equalization or above it, the line's own below. Assumes nothing.
 use Prim.Native.Nat.{_^_, _<_}
 use native.Mathlib.Omega.{arith}
-use lib.IntN.{pos, natAbs, negℤ, _-ℤ_, _*ℤ_}
+use lib.IntN.{pos, natAbs, _-ℤ_, _*ℤ_}
 use mir.Syntax.{w64}
 use mir.Val.{SFits, toZ, ofZ}
 use Rattle.whole.proofs.Size.{abs-times, fits-abs}
@@ -62,11 +62,16 @@ sub-result-2 c = neg-fits (slope-100 (c .before)) (level-fits (c .before))
 
 returns : tie.Need-returns
 unfolding divisor
-returns c = rw (le-leb _ _ (c .if1 .taken)) (op-holds _-ℤ_ (bottom-933 (c .before)) (slope-110 (c .before)) (steeper-fits (c .before)) .reads)
+returns c =
+    let a = start (c .before) .args in
+    rw (le-leb (a .equalization) (a .p) (omega arith))
+    (op-holds _-ℤ_ (bottom-933 (c .before)) (slope-110 (c .before)) (steeper-fits (c .before)) .reads)
 
 returns-2 : tie.Need-returns-2
 unfolding divisor
-returns-2 c = rw (lt-leb _ _ (c .if1 .left)) (neg-holds (slope-100 (c .before)) (level-fits (c .before)) .reads)
+returns-2 c =
+    let a = start (c .before) .args in
+    rw (lt-leb (a .equalization) (a .p) (omega arith)) (neg-holds (slope-100 (c .before)) (level-fits (c .before)) .reads)
 
 pub divisor-spec : {M : Type 1} → statement M
 divisor-spec =

@@ -3,11 +3,10 @@ use Prim.Native.Nat.{ℕ, _*_, _^_, _≤_, _<_}
 use native.Mathlib.Nat.{mul-le-mul}
 use native.Mathlib.Omega.{arith}
 use lib.IntN.{pos, natAbs, negℤ, _*ℤ_}
-use lib.Signed.{ltZ}
 use mir.Syntax.{w64}
 use mir.Val.{SFits, toZ, ofZ}
 use Rattle.whole.proofs.Size.{abs-neg, abs-times, fits-abs}
-use Rattle.whole.proofs.Words.{Holds, nat-holds, op-fits, op-holds, both}
+use Rattle.whole.proofs.Words.{Holds, nat-holds, op-fits, op-holds}
 use Rattle.trend.specs.declared.Sums.{Sums}
 use Rattle.trend.specs.Line.{slopeTop, bottom, levelsOff}
 use Rattle.trend.proofs.Words.{told, times-fits, times-holds, neg-fits, neg-holds}
@@ -71,9 +70,10 @@ mul-result-3 c = times-fits (seconds c) (neg-holds (slope-holds c) (slope-fits c
 returns : tie.Need-returns
 unfolding levelsOff
 returns c =
-    both ltZ
-    (op-holds _*ℤ_ (twice-holds c) (bottom-holds c) (last-fits c))
-    (times-holds (seconds c) (neg-holds (slope-holds c) (slope-fits c)) (omega arith) (line-fits c))
+    rw (
+      op-holds _*ℤ_ (twice-holds c) (bottom-holds c) (last-fits c) .reads,
+      times-holds (seconds c) (neg-holds (slope-holds c) (slope-fits c)) (omega arith) (line-fits c) .reads,
+    )
 
 pub levels-off-spec : {M : Type 1} → statement M
 levels-off-spec =

@@ -45,7 +45,7 @@ module _ (c : tie.After-divisor) where
 time-requires : tie.Need-time-requires
 time-requires c κs =
     let d = c .before in
-    rw (x-holds d .reads, y-holds d .reads) (start d .pre .1, fraction d (tested d (c .if1 .taken)))
+    rw (x-holds d .reads, y-holds d .reads) (start d .pre .1, fraction d (tested d {b = true} (c .if1 .taken)))
 
 returns : tie.Need-returns
 unfolding resultOf

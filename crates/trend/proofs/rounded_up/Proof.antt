@@ -1,12 +1,11 @@
 -- `trend::rounded_up` meets its contract. Assumes nothing.
-use mathlib.Core.Path.{_≡_, sym, ap, _∙_}
+use mathlib.Core.Path.{_≡_, _∙_}
 use Prim.Native.Nat.{ℕ, _*_, _^_, _≤_, _<_}
 use native.Mathlib.Omega.{arith}
 use lib.IntN.{ℤ, pos, natAbs, _+ℤ_, _-ℤ_, _*ℤ_}
 use mir.Syntax.{w64}
 use mir.Val.{SFits, toZ, ofZ}
 use Rattle.whole.specs.Floor.{cut}
-use Rattle.whole.specs.Ceiling.{ceilDiv}
 use Rattle.whole.proofs.Parts.{AtMost}
 use Rattle.whole.proofs.Order.{lt-parts}
 use Rattle.whole.proofs.Size.{abs-parts, abs-sub, abs-times, fits-abs}

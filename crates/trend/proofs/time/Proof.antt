@@ -6,10 +6,9 @@ use lib.IntN.{ℤ, pos, negsuc, natAbs, _+ℤ_, _*ℤ_}
 use mir.Syntax.{w64}
 use mir.Val.{SFits, toZ, ofZ}
 use Rattle.whole.specs.Floor.{floorDiv}
-use Rattle.whole.proofs.Parts.{AtMost, Below}
 use Rattle.whole.proofs.Order.{leZ-true, leZ-false, ltZ-true, ltZ-false}
 use Rattle.whole.proofs.Size.{abs-most, abs-add, fits-abs}
-use Rattle.whole.proofs.Words.{Holds, nat-holds, fit-holds, op-fits, op-holds, both}
+use Rattle.whole.proofs.Words.{Holds, nat-holds, fit-holds, op-fits, op-holds}
 use Rattle.trend.specs.Result.{roundedUp, inRange, timeOf}
 use Rattle.trend.proofs.Words.{told, times-fits, times-holds}
 use Rattle.trend.proofs.Rounding.{Divided, divided, rounded-most, far-above, far-below}
@@ -26,6 +25,9 @@ module _ (c : tie.Start) where
 
   hundred : 100 * natAbs (c .args .x) < 2 ^ 63
   hundred = omega (arith, c .pre .1 .dividend)
+
+  hundred-holds : Holds w64 (ofZ w64 (pos 100 *ℤ toZ w64 (ofZ w64 (c .args .x)))) (pos 100 *ℤ c .args .x)
+  hundred-holds = times-holds 100 x-holds (omega arith) hundred
 
 mul-floor-div : tie.Need-mul-floor-div
 mul-floor-div c = times-fits 100 (x-holds c) (omega arith) (hundred c)
@@ -44,7 +46,7 @@ module _ (c : tie.After-floor-div) where
   q-holds = fit-holds (sfits-of (c .floor-div .ok))
 
   q-is : q ≡ floorDiv (pos 100 *ℤ x) y
-  q-is = c .floor-div .ensures ∙ both floorDiv (times-holds 100 (x-holds (c .before)) (omega arith) (hundred (c .before))) (y-holds (c .before))
+  q-is = c .floor-div .ensures ∙ rw (hundred-holds (c .before) .reads, y-holds (c .before) .reads)
 
   by : Divided x y q
   by = divided x y q (c .before .pre .1 .above) q-is

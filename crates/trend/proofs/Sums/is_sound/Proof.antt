@@ -1,4 +1,5 @@
 -- `trend::Sums::is_sound` meets its contract. Assumes nothing.
+use mathlib.Core.Path.{refl}
 use borrow.Author.Needs.{needs}
 use Rattle.trend.specs.Sound.{isSound}
 use Rattle.trend.proofs.Sums.is_sound.Statement.{statement}
@@ -6,7 +7,7 @@ use Rattle.trend.proofs.Sums.is_sound.Tie as tie
 
 returns : tie.Need-returns
 unfolding isSound
-returns c = search needs
+returns c = refl
 
 pub is-sound-spec : {M : Type 1} → statement M
 is-sound-spec =

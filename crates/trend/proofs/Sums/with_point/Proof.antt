@@ -1,6 +1,6 @@
 -- `trend::Sums::with_point` meets its contract: its sums fit. Assumes nothing.
 use mathlib.Core.Path.{refl}
-use Prim.Native.Nat.{ℕ, _*_, _≤_, _<_}
+use Prim.Native.Nat.{ℕ, _≤_, _<_}
 use native.Mathlib.Nat.{mul-le-mul}
 use native.Mathlib.Omega.{arith}
 use Rattle.trend.specs.declared.Sums.{Sums}
