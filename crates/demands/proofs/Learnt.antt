@@ -14,7 +14,7 @@ use Rattle.trend.specs.declared.Learnt.the-variants.{Time}
 use Rattle.trend.specs.Points.{Point}
 use Rattle.learn.specs.declared.Shown.{Shown}
 use Rattle.learn.specs.declared.Lesson.{Lesson as Kept}
-use Rattle.learn.specs.Learn.{Lesson, waiting, falling, done, started, lessonOf, isFrontDown}
+use Rattle.learn.specs.Learn.{Lesson, without, waiting, falling, done, started, lessonOf, isFrontDown}
 use Rattle.learn.specs.Suffices.{keptOf, Completes, FallsTo, FallsOn, AlwaysLearns, Suffices, LearntInRange}
 use Rattle.learn.proofs.Falls.{falls-on, always-learns}
 use Rattle.learn.proofs.Suffices.{suffices}
@@ -45,7 +45,7 @@ first-falls : (s : Shown) → FallsTo (s .time) (lessonOf s waiting .0)
 unfolding lessonOf
 first-falls s = by (s .service)
   where
-    by : (b : Bool) → FallsTo (s .time) (cond b (cond (isFrontDown s) (started s (s .rear)) waiting) waiting)
+    by : (b : Bool) → FallsTo (s .time) (cond b (without (cond (isFrontDown s) (started s (s .rear)) waiting)) (without waiting) .0)
     by true = waiting-falls s (isFrontDown s)
     by false = tt
 

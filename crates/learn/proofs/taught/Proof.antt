@@ -7,6 +7,7 @@ use Rattle.learn.specs.declared.Stage.{Stage}
 use Rattle.learn.specs.declared.Stage.the-variants.{Waiting, FrontFell, Initial, Falling, Done}
 use Rattle.learn.specs.declared.Learner.{Learner}
 use Rattle.learn.specs.declared.Shown.{Shown}
+use Rattle.learn.specs.Stage.{bare}
 use Rattle.learn.specs.Kept.{inStage, taughtOf}
 use Rattle.learn.proofs.Choices.{passed, failed}
 use Rattle.learn.proofs.taught.Statement.{statement}
@@ -16,7 +17,8 @@ returns : tie.Need-returns
 unfolding taughtOf
 returns c =
     let start = c .before .before .before .before .args in
-    c .without .ensures ∙ rw (c .before .bare .ensures) (failed (start .s .service) _ _ (not-true (start .s .service) (c .before .before .if1 .taken)))
+    let kept : c .before .bare .result ≡ bare Waiting = c .before .bare .ensures in
+    c .without .ensures ∙ rw kept (failed (start .s .service) _ _ (not-true (start .s .service) (c .before .before .if1 .taken)))
 
 -- what a stage that is known is taught in service
 known : (l : Learner) (s : Shown) (stage : Stage) → not (s .service) ≡ false → l .stage ≡ stage → inStage stage l s ≡ taughtOf l s
