@@ -10,10 +10,10 @@ import unittest
 import unittest.mock
 
 import built
+from built import TYPED
 from second_learning import DONE, LEVEL, NOTHING, REAR_FALLS, SHORT, Trip, WAITING, fall, sums_of, until
 from second_program import EVERLASTING, PointSums, made, printed, psi, run, whole
 
-TYPED = "-DSECOND_TYPED"
 NAN = 0x7fc00000
 
 

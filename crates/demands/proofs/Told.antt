@@ -5,6 +5,8 @@ use Rattle.hundredths.proofs.Told.{reading-one}
 use Rattle.sample.proofs.Told as sample
 use Rattle.brake.proofs.Rear.{choice-one, heard-one}
 use Rattle.brake.proofs.Told.{state-one, brake-one}
+use Rattle.trend.proofs.Told.{learnt-one}
+use Rattle.learn.proofs.Stages.{stage-one, learner-one}
 use Rattle.session.proofs.Told as session
 use Rattle.held.proofs.Answers.{read-tells}
 use Rattle.demands.specs.Told.{ToldApart}
@@ -19,9 +21,12 @@ told-apart = record {
   state = state-one;
   choice = choice-one;
   heard = heard-one;
+  learnt = learnt-one;
+  stage = stage-one;
   raw = sample.raw-one;
   sample = sample.sample-one;
   brake = brake-one;
+  learner = learner-one;
   session = session.session-one;
   answer = told-one;
   sample-answer = sample.answer-one;

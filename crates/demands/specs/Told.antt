@@ -8,6 +8,8 @@ use Rattle.sample.specs.Sample.{rearTold, rawTold, pressureTold, sampleTold, ju
 use Rattle.brake.specs.State.{stateNumber}
 use Rattle.brake.specs.Rear.{choiceNumber, heardNumber}
 use Rattle.brake.specs.Brake.{brakeTold}
+use Rattle.trend.specs.Result.{learntNumber}
+use Rattle.learn.specs.Stage.{stageNumber, learnerTold}
 use Rattle.session.specs.Session.{sessionTold, answerTold, callTold}
 use Rattle.held.specs.Held.{readTold}
 
@@ -24,10 +26,13 @@ pub record ToldApart : Type 1 where
   pub state : Apart stateNumber
   pub choice : Apart choiceNumber
   pub heard : Apart heardNumber
+  pub learnt : Apart learntNumber
+  pub stage : Apart stageNumber
   -- each value that holds one
   pub raw : Apart rawTold
   pub sample : Apart sampleTold
   pub brake : Apart brakeTold
+  pub learner : Apart learnerTold
   pub session : Apart sessionTold
   -- each answer: a verdict and a value, and of a sample call the lent output
   pub answer : {A : Type 0} → Apart {A = Verdict × A} told

@@ -18,6 +18,9 @@ stage-of-number Initial = refl
 stage-of-number Falling = refl
 stage-of-number Done = refl
 
+pub stage-one : (s t : Stage) → stageNumber s ≡ stageNumber t → s ≡ t
+stage-one s t h = sym (stage-of-number s) ∙ ap stageOf h ∙ stage-of-number t
+
 pub stage-number-most : (s : Stage) → stageNumber s ≤ 4
 stage-number-most Waiting = omega arith
 stage-number-most FrontFell = omega arith

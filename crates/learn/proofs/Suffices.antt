@@ -3,7 +3,6 @@ use mathlib.Core.Path.{_≡_, refl, ap, _∙_}
 use mathlib.Core.Bool.{_&&_, cond}
 use mathlib.Core.List.{List, [], _∷_}
 use Prim.Native.Nat.{ℕ, _-_}
-use native.Mathlib.Nat.{add-zero}
 use native.Mathlib.Numerals.{add-one}
 use lib.Dec.{leb, ltb}
 use lib.ListN.{length}
@@ -31,7 +30,7 @@ kept x = lesson (keptOf (x .0)) (x .1)
 -- the sums with one point more are those of one point more
 with-more : (x : Point) (xs : List Point) → withPoint (sumsOf xs) (x .t) (x .p) ≡ sumsOf (x ∷ xs)
 unfolding sumsOf
-with-more x xs = simp (add-one, add-zero)
+with-more x xs = simp add-one
 
 with-first : (x : Point) → withPoint noSums (x .t) (x .p) ≡ sumsOf (x ∷ [])
 unfolding sumsOf

@@ -1,5 +1,5 @@
 -- 000, 3.7: T_APPLY, "the result rounded up to a ms and held inside the consist's range". Definitions only.
-use Prim.Native.Nat.{ℕ, _+_, _*_, min, max}
+use Prim.Native.Nat.{ℕ, suc, _+_, _*_, min, max}
 use mathlib.Core.Bool.{cond}
 use lib.Dec.{leb}
 use lib.IntN.{ℤ, pos, negℤ, _+ℤ_, _-ℤ_, _*ℤ_}
@@ -9,6 +9,11 @@ use Rattle.trend.specs.declared.Sums.{Sums}
 use Rattle.trend.specs.declared.Learnt.{Learnt}
 use Rattle.trend.specs.declared.Learnt.the-variants.{Nothing, Time}
 use Rattle.trend.specs.Line.{slopeTop, interceptTop, bottom}
+
+-- as a number: 0 where nothing is learnt, else one more than the ms
+abbrev pub learntNumber : Learnt → ℕ
+learntNumber Nothing = 0
+learntNumber (Time ms) = suc ms
 
 -- X = B − E Z: "ARP_EQU − I_N−1", in Zths, the other way round
 unfoldable pub dividend : (equ : ℕ) → Sums → ℤ

@@ -41,6 +41,12 @@ module _ (l : Learner) (s : Shown) (t p : ℕ) where
   unfolding addedTo
   goes-on h = failed (isComplete l t p) _ _ h
 
+with-point-requires : tie.Need-with-point-requires
+with-point-requires c κs = (c .before .pre .0 .sums, c .before .pre .1)
+
+levels-off-requires : tie.Need-levels-off-requires
+levels-off-requires c κs = c .before .before .before .before .before .with-point .ensures .1
+
 returns : tie.Need-returns
 returns c =
     let test = c .before .before in
@@ -58,14 +64,14 @@ pub added-spec : {M : Type 1} → statement M
 added-spec =
     tie.close
     (tie.spec
-    (λ c κs. search needs)
+    with-point-requires
     (λ c. search needs)
     (λ c κs. search needs)
     (λ c. search needs)
     (λ c. search needs)
     (λ c κs. search needs)
     (λ c. search needs)
-    (λ c κs. search needs)
+    levels-off-requires
     (λ c κs. search needs)
     (λ c κs. search needs)
     returns
