@@ -1,5 +1,5 @@
-"""Tests of tools/compare: what is compared and counted; test_compare_choices has what it makes of the two choices, and
-test_compare_typed what it makes of a learnt time."""
+"""Tests of tools/compare: what is compared and counted; test_compare_choices has what it makes of the two choices,
+test_compare_typed what it makes of a learnt time, and test_compare_pairs what it makes of a slower trip."""
 
 import os
 import unittest
@@ -75,7 +75,9 @@ class Compare(Comparing):
         self.assertIn("emergency called in state 5, emergency cause 1 in state 0,", out)
         self.assertIn("emergency cause 8 in state 5, a runaway, a slight descent, a sample with 1 block, "
                       "a sample with 2 to 63 blocks, a sample with 64 blocks, a silence kept at 5 s, ", out)
-        self.assertIn(", a parting of the choices by a value given up, a parting of the choices by none yet\n", out)
+        self.assertIn(", a penalty that is earlier at a higher speed, a penalty at the same sample of a pair, a penalty of the "
+                      "faster trip alone, a nearer stop at a lower speed, a pair of trips that learn a time, a pair of trips with "
+                      "a lost rear, a parting of the choices by a value given up, a parting of the choices by none yet\n", out)
         self.assertEqual(self.run_compare("299", "--", "true", "--", "true")[0], 0)
 
     def test_emergency_is_counted(self):

@@ -33,12 +33,15 @@ class Tally(unittest.TestCase):
                    "a rear silent as the front falls", "a rear lost while it falls", "a lesson cut by a release",
                    "a lesson cut by an emergency", "a slope of one half", "a time learnt below equalization",
                    "a time held at 1,000", "a time held at 240,000"]
-        last = [*sizes, *silences, *lessons, "a parting of the choices by a value given up",
+        pairs = ["a penalty that is earlier at a higher speed", "a penalty at the same sample of a pair",
+                 "a penalty of the faster trip alone", "a nearer stop at a lower speed", "a pair of trips that learn a time",
+                 "a pair of trips with a lost rear"]
+        last = [*sizes, *silences, *lessons, *pairs, "a parting of the choices by a value given up",
                 "a parting of the choices by none yet"]
-        self.assertEqual(feeds.Tally(2).missing()[-24:], ["a runaway", "a slight descent", *last])
+        self.assertEqual(feeds.Tally(2).missing()[-30:], ["a runaway", "a slight descent", *last])
         seen = feeds.Tally(2)
         seen.slight += 1
-        self.assertEqual(seen.missing()[-23:], ["a runaway", *last])
+        self.assertEqual(seen.missing()[-29:], ["a runaway", *last])
         for said, named in (("x 10", "refusal 10"), ("x 13", "refusal 13")):
             seen = feeds.Tally(2)
             self.assertIn(named, seen.missing())

@@ -1,6 +1,7 @@
 """feed - makes, writes and shows feeds for the session program.
 
     feed random SEED [KIND]   a feed made from the seed alone, to standard output
+    feed slower SEED [KIND]   the same but for its speeds, of which none is higher
     feed kinds                the kinds of random feeds
     feed make TEXT            the feed that a text states, to standard output
     feed show FEED            the text of a feed
@@ -53,6 +54,7 @@ import sys
 
 from .kinds import KIND_NAMES, KINDS, random_feed
 from .making import make
+from .pairs import slowed
 from .showing import show
 from .words import BadText
 
@@ -81,14 +83,16 @@ def write_text(text):
     return 0
 
 
-def random_command(words):
+def random_command(verb, words):
     if len(words) not in (1, 2):
-        return usage("random needs SEED [KIND]")
+        return usage("%s needs SEED [KIND]" % verb)
     if not (words[0].isascii() and words[0].isdigit()):
         return usage("the seed is not a whole number: %s" % words[0])
     if len(words) == 2 and words[1] not in KIND_NAMES:
         return usage("no kind %s; the kinds are %s" % (words[1], ", ".join(KIND_NAMES)))
-    return write_bytes(random_feed(int(words[0]), *words[1:]))
+    seed = int(words[0])
+    feed = random_feed(seed, *words[1:])
+    return write_bytes(slowed(feed, seed) if verb == "slower" else feed)
 
 
 def make_command(data):
@@ -102,15 +106,15 @@ def make_command(data):
 
 def command(words):
     if not words:
-        return usage("say random, kinds, make, show or help")
+        return usage("say random, slower, kinds, make, show or help")
     verb, words = words[0], words[1:]
     if verb in ("help", "--help", "-h"):
         return write_text(__doc__)
     if verb == "kinds":
         return write_text("".join("%-10s %s\n" % (name, " ".join(kind.__doc__.split()))
                                   for name, kind in KINDS.items()))
-    if verb == "random":
-        return random_command(words)
+    if verb in ("random", "slower"):
+        return random_command(verb, words)
     if verb not in ("make", "show"):
         return usage("unknown verb %s" % verb)
     if len(words) != 1:

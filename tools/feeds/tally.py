@@ -5,6 +5,7 @@ from collections import Counter
 from .answers import EITHER_WAY, UNLIKE, answers_of
 from .finer import FINER, finer, slight_descents
 from .lessons import LessonsSeen
+from .pairs import PairsSeen
 from .rises import RISES, rise
 from .runaways import runaways
 from .silences import CHOICES, SilencesSeen, parting
@@ -108,6 +109,7 @@ class Tally:
         self.blocks = BlocksSeen()
         self.silences = SilencesSeen()
         self.lessons = LessonsSeen()
+        self.pairs = PairsSeen()
         self.choices = everlasting()
         self.earlier = list(earlier)
         # by default, those of the earlier rules too; then under the everlasting choice
@@ -170,6 +172,7 @@ class Tally:
                 + self.blocks.missing()
                 + self.silences.missing()
                 + self.lessons.missing()
+                + self.pairs.missing()
                 + self.choices.missing()
                 + [name for one in self.earlier for name in one.missing()])
 
@@ -192,6 +195,7 @@ class Tally:
             self.blocks.row(),
             self.silences.row(),
             self.lessons.row(),
+            self.pairs.row(),
             self.choices.row(),
         ] + [one.row() for one in self.earlier] + [
             "exits     " + self.exits(self.ends[:-self.programs]),

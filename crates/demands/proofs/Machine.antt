@@ -62,7 +62,7 @@ module _ (x : Session) (l : Lent) where
         ap (λ (u : Verdict). written u both (l .out)) (passed _ _ _ fine ∙ passed _ _ _ fine′ ∙ v)
         ∙ sym (ap {B = Verdict × List ℕ} (λ (u : Verdict). (Accepted, written u both (l .out) .1)) h)
 
-    made : call ours x (sampling l) ≡ sampled x l Accepted
+    pub made : call ours x (sampling l) ≡ sampled x l Accepted
     unfolding sampleCall
     made = sampled-is x l Accepted h
 
@@ -72,11 +72,14 @@ module _ (x : Session) (l : Lent) where
     read-back false = both-read-back (decisionBy false) (decisionBy true) (l .out) (ap (λ (r : Verdict × List ℕ). r .0) writes) .0
     read-back true = both-read-back (decisionBy false) (decisionBy true) (l .out) (ap (λ (r : Verdict × List ℕ). r .0) writes) .1
 
-    decided : (e : Bool) → Decides byValue e (call ours x (sampling l)) (decisionBy e)
+    pub decided : (e : Bool) → Decides byValue e (call ours x (sampling l)) (decisionBy e)
     decided e = record {
       accepted = h;
       reads = sym (ap (λ (r : Verdict × List ℕ). readDecision (recordOf e (r .1))) writes) ∙ read-back e;
     }
+
+    pub ready-of : Ready (x .consist) (x .brake) (sampleIn (l .sample)) (l .profile)
+    ready-of = ready x (l .sample) (l .profile) (l .targets) before
 
   -- "the penalty bit is 1 exactly when the cause is not 0", and the session holds the cause
   bit-of : (e : Bool) → decisionBy e .penalty ≡ not (eqb (decisionBy e .cause) 0)
@@ -230,7 +233,7 @@ some-cause (suc n) call h = let some : 0 < suc n = omega arith in subst (λ (k :
 
 pub admitted : (x : Session) (l : Lent) (e : Bool) (d : Decision) → Decides byValue e (call ours x (sampling l)) d
     → Ready (x .consist) (x .brake) (sampleIn (l .sample)) (l .profile)
-admitted x l e d h = ready x (l .sample) (l .profile) (l .targets) (before x l (h .accepted))
+admitted x l e d h = ready-of x l (h .accepted)
 
 pub demand-3 : {S T : Type 0} (h : Holding S T) → Lawful h → (m m′ : Machine S T) → Does h m → Does h m′ → Demand-3 h m m′
 unfolding Compared causeAfter

@@ -1,0 +1,127 @@
+-- Document 02's R-13, "Say it for a whole trip": two sessions that are opened alike and given samples that agree in everything except speed. Nothing is
+-- claimed for emergency, "which waits on each session's own penalty". Statements over machines; proofs/{Trips,Faster}.antt prove them.
+use mathlib.Core.Path.{_≡_}
+use mathlib.Core.Bool.{true, false, cond}
+use mathlib.Core.List.{List, [], _∷_, map}
+use Prim.Native.Nat.{ℕ, suc, _≤_}
+use lib.ListN.{take, drop}
+use lib.Ieee.{Float, le}
+use Rattle.bits.specs.Bytes.{Bytes}
+use Rattle.hundredths.specs.declared.Rounding.the-variants.{Up}
+use Rattle.hundredths.specs.Reading.{mostSpeed, isBad, hundredthsOf}
+use Rattle.refusal.specs.declared.Verdict.{Verdict}
+use Rattle.refusal.specs.declared.Verdict.the-variants.{Accepted}
+use Rattle.sample.specs.declared.Sample.{Sample}
+use Rattle.sample.specs.Sample.{rawIn, readSample}
+use Rattle.decision.specs.declared.Decision.{Decision}
+use Rattle.decision.specs.Decision.{readDecision}
+use Rattle.brake.specs.declared.Choice.{Choice}
+use Rattle.session.specs.declared.Session.{Session}
+use Rattle.sampling.specs.Sample.{sampleIn}
+use Rattle.sampling.specs.Laws.{Lent}
+use Rattle.demands.specs.Machine.{opening, sampling, Lends, Machine, call, Holding, Accepts, recordOf}
+use Rattle.demands.specs.Program.{byValue}
+use Rattle.demands.specs.Program as program
+use Rattle.demands.specs.Library.{inBytes}
+use Rattle.demands.specs.Library as library
+
+-- ---- two trips
+
+-- "agree in everything except speed, and each speed in the first is no lower", in hundredths
+pub record Faster (m n : Sample) : Type 0 where
+  pub time : m .time ≡ n .time
+  pub head : m .head ≡ n .head
+  pub front : m .front ≡ n .front
+  pub rear : m .rear ≡ n .rear
+  pub speed : n .speed ≤ m .speed
+
+-- "Profiles and targets agree call by call."
+pub record Beside (l l′ : Lent) : Type 0 where
+  pub profile : l .profile ≡ l′ .profile
+  pub targets : l .targets ≡ l′ .targets
+  pub sample : Faster (sampleIn (l .sample)) (sampleIn (l′ .sample))
+
+-- the calls of two trips, of the first and beside it of the second
+abbrev pub Trips : Type 0
+Trips = List (Lent × Lent)
+
+abbrev pub first : Trips → List Lent
+first ps = map (λ p. p .0) ps
+
+abbrev pub second : Trips → List Lent
+second ps = map (λ p. p .1) ps
+
+abbrev pub EachBeside : Trips → Type 0
+EachBeside [] = Unit {0}
+EachBeside (p ∷ ps) = Beside (p .0) (p .1) × EachBeside ps
+
+abbrev pub LendsTrips : Trips → Type 0
+LendsTrips [] = Unit {0}
+LendsTrips (p ∷ ps) = Lends (sampling (p .0)) × Lends (sampling (p .1)) × LendsTrips ps
+
+module _ {S T : Type 0} (m : Machine S T) where
+  -- "All samples are accepted"
+  abbrev pub AcceptsEach : Holding S T → S → List Lent → Type 0
+  AcceptsEach h z [] = Unit {0}
+  AcceptsEach h z (l ∷ ls) = let r = call m z (sampling l) in Accepts h r × AcceptsEach h (r .state) ls
+
+  -- the penalty's decision of each sample, as its output reads
+  abbrev pub decisions : S → List Lent → List Decision
+  decisions z [] = []
+  decisions z (l ∷ ls) = let r = call m z (sampling l) in readDecision (recordOf false (r .out)) .1 ∷ decisions (r .state) ls
+
+-- ---- what is said of them
+
+-- of two decisions, the first trip's and the second's
+pub record NoLater (d d′ : Decision) : Type 0 where
+  -- "Brake states agree throughout"
+  pub state : d .state ≡ d′ .state
+  pub penalty : d′ .penalty ≡ true → d .penalty ≡ true
+  -- the second's stop is not beyond the first's
+  pub stop : d′ .stop ≤ d .stop
+
+abbrev pub EachNoLater : List Decision → List Decision → Type 0
+EachNoLater [] [] = Unit {0}
+EachNoLater [] (d′ ∷ ds′) = ⊥
+EachNoLater (d ∷ ds) [] = ⊥
+EachNoLater (d ∷ ds) (d′ ∷ ds′) = NoLater d d′ × EachNoLater ds ds′
+
+-- how many decisions come before the first penalty
+abbrev pub untilPenalty : List Decision → ℕ
+untilPenalty [] = 0
+untilPenalty (d ∷ ds) = cond (d .penalty) 0 (suc (untilPenalty ds))
+
+-- "Two sessions open with the same consist and choices", from whatever stood before. "Then the first session's penalty comes no later than the second's."
+abbrev pub WholeTrip : {S T S′ T′ : Type 0} → Holding S T → Holding S′ T′ → Machine S T → Machine S′ T′ → Type 0
+WholeTrip {S} {T} {S′} {T′} h h′ m m′ =
+    (z : S) (z′ : S′) (s : List ℕ) (choice : Choice) (ps : Trips) → h .Fits z → h′ .Fits z′ → Lends (opening s choice) → LendsTrips ps → EachBeside ps →
+    let o = call m z (opening s choice) in
+    let o′ = call m′ z′ (opening s choice) in
+    Accepts h o → Accepts h′ o′ → AcceptsEach m h (o .state) (first ps) → AcceptsEach m′ h′ (o′ .state) (second ps) →
+    let ds = decisions m (o .state) (first ps) in
+    let ds′ = decisions m′ (o′ .state) (second ps) in
+    EachNoLater ds ds′ × (untilPenalty ds ≤ untilPenalty ds′)
+
+-- the Rattle program or the C library, on either side
+pub record Trip-13 : Type 0 where
+  pub programs : (m m′ : Machine Session Verdict) → program.Meets m → program.Meets m′ → WholeTrip byValue byValue m m′
+  pub program-first : (m : Machine Session Verdict) (m′ : Machine (List ℕ) ℕ) → program.Meets m → library.Meets m′ → WholeTrip byValue inBytes m m′
+  pub library-first : (m : Machine (List ℕ) ℕ) (m′ : Machine Session Verdict) → library.Meets m → program.Meets m′ → WholeTrip inBytes byValue m m′
+  pub libraries : (m m′ : Machine (List ℕ) ℕ) → library.Meets m → library.Meets m′ → WholeTrip inBytes inBytes m m′
+
+-- ---- the premise, by readings and by bytes
+
+-- "rounded up" keeps the order of readings that are not refused
+unfoldable pub SpeedsKeepOrder : Type 0
+SpeedsKeepOrder = (x y : Float) → isBad mostSpeed x ≡ false → isBad mostSpeed y ≡ false → le x y ≡ true → hundredthsOf Up x ≤ hundredthsOf Up y
+
+-- samples that agree outside the speed's four bytes, of which the first's reading is no lower
+pub record ApartInSpeed (s s′ : List ℕ) : Type 0 where
+  pub before : take 8 s ≡ take 8 s′
+  pub behind : drop 12 s ≡ drop 12 s′
+  pub speed : le (rawIn s′ .speed) (rawIn s .speed) ≡ true
+
+unfoldable pub BytesFaster : Type 0
+BytesFaster =
+    (s s′ : List ℕ) → Bytes s → Bytes s′ → readSample s .0 ≡ Accepted → readSample s′ .0 ≡ Accepted → ApartInSpeed s s′
+    → Faster (sampleIn s) (sampleIn s′)
