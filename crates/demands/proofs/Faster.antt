@@ -1,4 +1,4 @@
--- Rounding up keeps the order of speeds, and bytes that agree outside the speed's four are samples that agree in everything except speed. Assumes nothing.
+-- Rounding up keeps the order of speeds, and accepted bytes that agree outside the speed's four are samples that agree in everything except speed. Assumes nothing.
 use mathlib.Core.Path.{_≡_, refl, sym, ap, _∙_}
 use mathlib.Core.Bool.{Bool, true, false, _&&_, _||_, Bool·beq, true≢false, false≢true}
 use mathlib.Core.List.{List, [], _∷_, _++_}
@@ -25,7 +25,7 @@ use Rattle.record.specs.Record.{wrongLength}
 use Rattle.sample.specs.declared.RawSample.{RawSample}
 use Rattle.sample.specs.Sample.{size, leadWidths, readingWidths, widths, rearOf, rawIn, readSample, rearInHundredths}
 use Rattle.sample.proofs.Answers.{LaidOut, read-inv, each-good}
-use Rattle.demands.specs.Trips.{Faster, SpeedsKeepOrder, ApartInSpeed, BytesFaster}
+use Rattle.demands.specs.Trips.{Agreement, InHundredths, ApartInSpeed, SpeedsKeepOrder}
 
 -- ---- floats that are not below zero, by their sizes over one denominator
 
@@ -94,9 +94,16 @@ module _ (s : List ℕ) (h : readSample s .0 ≡ Accepted) where
   right : isBad mostSpeed (rawIn s .speed) ≡ false
   right = sym (ap (λ (r : RawSample). isBad mostSpeed (r .speed)) (laid .raw-in)) ∙ each-good raw (read-inv s raw (λ i. (h i, raw)) .1) .0
 
-pub bytes-faster : BytesFaster
-unfolding BytesFaster SpeedsKeepOrder rawIn
-bytes-faster s s′ b b′ h h′ apart =
+-- samples that the reader accepts and that agree so are a faster one and a slower one
+abbrev pub Suffices : Agreement → Type 0
+Suffices Agree = (s s′ : List ℕ) → Bytes s → Bytes s′ → readSample s .0 ≡ Accepted → readSample s′ .0 ≡ Accepted → Agree s s′ → InHundredths s s′
+
+pub hundredths-suffice : Suffices InHundredths
+hundredths-suffice s s′ b b′ h h′ faster = faster
+
+pub bytes-suffice : Suffices ApartInSpeed
+unfolding SpeedsKeepOrder rawIn
+bytes-suffice s s′ b b′ h h′ apart =
     let mid = take 4 (drop 8 s) in
     let same : aside (fieldsIn widths s) ≡ aside (fieldsIn widths s′) =
     ap aside (parts s b (long s (laid s h .length)))

@@ -8,10 +8,12 @@ use native.Mathlib.Omega.{arith}
 use Rattle.refusal.specs.Steps.{kept}
 use Rattle.refusal.specs.declared.Verdict.{Verdict}
 use Rattle.refusal.specs.declared.Verdict.the-variants.{Accepted}
+use Rattle.refusal.proofs.Order.{passed, last-passed}
 use Rattle.consist.specs.declared.Consist.{Consist}
 use Rattle.consist.specs.Consist.{readConsist}
 use Rattle.targets.specs.Targets.{most, speedsIn}
 use Rattle.sample.specs.declared.Sample.{Sample}
+use Rattle.sample.specs.Sample.{readSample}
 use Rattle.decision.specs.declared.Decision.{Decision}
 use Rattle.decision.specs.Decision.{readDecision}
 use Rattle.brake.specs.declared.Choice.{Choice}
@@ -25,17 +27,20 @@ use Rattle.judge.specs.Judge.{standing}
 use Rattle.judge.specs.Approach.{predictionOf, callOf}
 use Rattle.laws.specs.Approaches.{Worse, AsCautious, Compared}
 use Rattle.laws.proofs.Approaches.{compared}
+use Rattle.admission.proofs.Admitted.{none-holds}
 use Rattle.prediction.specs.Steps.{Ready}
 use Rattle.session.specs.declared.Session.{Session}
 use Rattle.session.specs.Open.{openedWith, openOf}
 use Rattle.sampling.specs.Learning.{isService, inForce}
 use Rattle.sampling.specs.Sample.{sampleIn, brakeAfter, approach, lessonAfter, causeAfter, sessionAfter}
+use Rattle.sampling.specs.Steps.{rulesBefore}
 use Rattle.sampling.specs.Laws.{Lent}
 use Rattle.sampling.proofs.Laws.{standing-stays}
 use Rattle.demands.specs.Machine.{opening, sampling, Lends, Reply, Machine, call, ours, Holding, Holds, carry, Does, Accepts, recordOf}
-use Rattle.demands.specs.Trips.{Faster, Beside, Trips, first, second, EachBeside, LendsTrips, AcceptsEach, decisions, NoLater, EachNoLater, untilPenalty, WholeTrip, Trip-13}
+use Rattle.demands.specs.Trips.{Faster, Agreement, InHundredths, Beside, Trips, first, second, EachBeside, LendsTrips, AcceptsEach, decisions, NoLater, EachNoLater, untilPenalty, WholeTrip, EitherSide, Trip-13}
 use Rattle.demands.proofs.Carried.{sampled, Lawful, next-holds}
-use Rattle.demands.proofs.Machine.{decisionBy, made, decided, not-zero, is-not-zero, own-call, some-cause, ready-of}
+use Rattle.demands.proofs.Machine.{decisionBy, before, made, decided, not-zero, is-not-zero, own-call, some-cause, ready-of}
+use Rattle.demands.proofs.Faster.{Suffices, hundredths-suffice, bytes-suffice}
 use Rattle.demands.proofs.Contracts.{value-lawful, program-does, bytes-lawful, library-does}
 
 -- two sessions that only the causes tell apart, and the second's stands only where the first's does
@@ -55,7 +60,7 @@ stood-stands stood called h = subst (λ (n : ℕ). 0 < n) (sym (standing-stays s
 
 -- ---- one pair of calls
 
-module _ (x y : Session) (same : Same x y) (l l′ : Lent) (beside : Beside l l′) where
+module _ (x y : Session) (same : Same x y) (l l′ : Lent) (beside : Beside InHundredths l l′) where
   abbrev m : Sample
   m = sampleIn (l .sample)
 
@@ -126,6 +131,18 @@ module _ (x y : Session) (same : Same x y) (l l′ : Lent) (beside : Beside l l�
       cause = causes;
     }
 
+-- so the first penalty comes no later
+until : (ds ds′ : List Decision) → EachNoLater ds ds′ → untilPenalty ds ≤ untilPenalty ds′
+until [] [] e = omega arith
+until [] (d′ ∷ ds′) e = absurd e
+until (d ∷ ds) [] e = absurd e
+until (d ∷ ds) (d′ ∷ ds′) e = by (d .penalty) (d′ .penalty) (e .0 .penalty) (until ds ds′ (e .1))
+  where
+    by : (p p′ : Bool) → (p′ ≡ true → p ≡ true) → untilPenalty ds ≤ untilPenalty ds′ → cond p 0 (suc (untilPenalty ds)) ≤ cond p′ 0 (suc (untilPenalty ds′))
+    by true p′ f g = omega arith
+    by false true f g = absurd (true≢false (sym (f refl)))
+    by false false f g = omega arith
+
 -- ---- the calls of two trips
 
 -- an opening that is accepted gives one session, whatever stood before
@@ -157,33 +174,37 @@ module _ {S T : Type 0} (h : Holding S T) (w : Lawful h) (m : Machine S T) (does
   next-held : Holds h (call m z (sampling l) .state) (sessionAfter x (sampleIn (l .sample)) (l .profile) (l .targets))
   next-held = subst (Holds h (call m z (sampling l) .state)) next-is (next-holds h w m does z x o (sampling l) b)
 
-module _ {S T S′ T′ : Type 0} (h : Holding S T) (h′ : Holding S′ T′) (w : Lawful h) (w′ : Lawful h′) (m : Machine S T) (m′ : Machine S′ T′) (does : Does h m) (does′ : Does h′ m′) where
-  each : (ps : Trips) (z : S) (z′ : S′) (x y : Session) → Holds h z x → Holds h′ z′ y → Same x y → LendsTrips ps → EachBeside ps
+-- the reader accepts its sample
+sample-read : (x : Session) (l : Lent) → call ours x (sampling l) .told ≡ Accepted → readSample (l .sample) .0 ≡ Accepted
+unfolding readSample
+sample-read x l h =
+    let (_, (length, (mark, (_, (_, (reading, _)))))) = none-holds (rulesBefore x (l .sample) (l .profile) (l .targets)) (before x l h) in
+    passed _ _ _ length ∙ passed _ _ _ mark ∙ last-passed _ _ reading
+
+module _ (Agree : Agreement) (suffices : Suffices Agree) {S T S′ T′ : Type 0} (h : Holding S T) (h′ : Holding S′ T′) (w : Lawful h) (w′ : Lawful h′)
+    (m : Machine S T) (m′ : Machine S′ T′) (does : Does h m) (does′ : Does h′ m′) where
+  each : (ps : Trips) (z : S) (z′ : S′) (x y : Session) → Holds h z x → Holds h′ z′ y → Same x y → LendsTrips ps → EachBeside Agree ps
       → AcceptsEach m h z (first ps) → AcceptsEach m′ h′ z′ (second ps) → EachNoLater (decisions m z (first ps)) (decisions m′ z′ (second ps))
   each [] z z′ x y o o′ same b beside a a′ = tt
   each (p ∷ ps) z z′ x y o o′ same b beside a a′ =
       let l = p .0 in
       let l′ = p .1 in
-      let ready = ready-of x l (is-accepted h w m does z x o l (b .0) (a .0)) in
-      let ready′ = ready-of y l′ (is-accepted h′ w′ m′ does′ z′ y o′ l′ (b .1) (a′ .0)) in (
-        subst₂ NoLater (sym (reads h w m does z x o l (b .0) (a .0))) (sym (reads h′ w′ m′ does′ z′ y o′ l′ (b .1) (a′ .0))) (no-later x y same l l′ (beside .0) ready ready′),
-        each ps _ _ _ _ (next-held h w m does z x o l (b .0) (a .0)) (next-held h′ w′ m′ does′ z′ y o′ l′ (b .1) (a′ .0)) (next-same x y same l l′ (beside .0) ready ready′)
+      let admitted = is-accepted h w m does z x o l (b .0) (a .0) in
+      let admitted′ = is-accepted h′ w′ m′ does′ z′ y o′ l′ (b .1) (a′ .0) in
+      let ready = ready-of x l admitted in
+      let ready′ = ready-of y l′ admitted′ in
+      let faster : Beside InHundredths l l′ =
+      record {
+        profile = beside .0 .profile;
+        targets = beside .0 .targets;
+        sample = suffices _ _ (b .0 .0 .0) (b .1 .0 .0) (sample-read x l admitted) (sample-read y l′ admitted′) (beside .0 .sample);
+      } in (
+        subst₂ NoLater (sym (reads h w m does z x o l (b .0) (a .0))) (sym (reads h′ w′ m′ does′ z′ y o′ l′ (b .1) (a′ .0))) (no-later x y same l l′ faster ready ready′),
+        each ps _ _ _ _ (next-held h w m does z x o l (b .0) (a .0)) (next-held h′ w′ m′ does′ z′ y o′ l′ (b .1) (a′ .0)) (next-same x y same l l′ faster ready ready′)
             (b .2) (beside .1) (a .1) (a′ .1),
       )
 
-  -- so the first penalty comes no later
-  until : (ds ds′ : List Decision) → EachNoLater ds ds′ → untilPenalty ds ≤ untilPenalty ds′
-  until [] [] e = omega arith
-  until [] (d′ ∷ ds′) e = absurd e
-  until (d ∷ ds) [] e = absurd e
-  until (d ∷ ds) (d′ ∷ ds′) e = by (d .penalty) (d′ .penalty) (e .0 .penalty) (until ds ds′ (e .1))
-    where
-      by : (p p′ : Bool) → (p′ ≡ true → p ≡ true) → untilPenalty ds ≤ untilPenalty ds′ → cond p 0 (suc (untilPenalty ds)) ≤ cond p′ 0 (suc (untilPenalty ds′))
-      by true p′ f g = omega arith
-      by false true f g = absurd (true≢false (sym (f refl)))
-      by false false f g = omega arith
-
-  whole-trip : WholeTrip h h′ m m′
+  whole-trip : WholeTrip Agree h h′ m m′
   whole-trip z z′ s choice ps fits fits′ b bs beside a a′ all all′ =
       let k = opening s choice in
       let o : Holds h z (h .session z) = (fits, refl) in
@@ -195,10 +216,13 @@ module _ {S T S′ T′ : Type 0} (h : Holding S T) (h′ : Holding S′ T′) (
       (opened-same (h .session z) (h′ .session z′) s choice first-opens second-opens) bs beside all all′ in
       (every, until (decisions m (call m z k .state) (first ps)) (decisions m′ (call m′ z′ k .state) (second ps)) every)
 
-pub trip-13 : Trip-13
-trip-13 = record {
-  programs = λ m m′ met met′. whole-trip _ _ value-lawful value-lawful m m′ (program-does m met) (program-does m′ met′);
-  program-first = λ m m′ met met′. whole-trip _ _ value-lawful bytes-lawful m m′ (program-does m met) (library-does m′ met′);
-  library-first = λ m m′ met met′. whole-trip _ _ bytes-lawful value-lawful m m′ (library-does m met) (program-does m′ met′);
-  libraries = λ m m′ met met′. whole-trip _ _ bytes-lawful bytes-lawful m m′ (library-does m met) (library-does m′ met′);
+either-side : (Agree : Agreement) → Suffices Agree → EitherSide Agree
+either-side Agree suffices = record {
+  programs = λ m m′ met met′. whole-trip Agree suffices _ _ value-lawful value-lawful m m′ (program-does m met) (program-does m′ met′);
+  program-first = λ m m′ met met′. whole-trip Agree suffices _ _ value-lawful bytes-lawful m m′ (program-does m met) (library-does m′ met′);
+  library-first = λ m m′ met met′. whole-trip Agree suffices _ _ bytes-lawful value-lawful m m′ (library-does m met) (program-does m′ met′);
+  libraries = λ m m′ met met′. whole-trip Agree suffices _ _ bytes-lawful bytes-lawful m m′ (library-does m met) (library-does m′ met′);
 }
+
+pub trip-13 : Trip-13
+trip-13 = record { in-hundredths = either-side InHundredths hundredths-suffice; in-bytes = either-side _ bytes-suffice }

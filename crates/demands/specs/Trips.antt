@@ -6,13 +6,11 @@ use mathlib.Core.List.{List, [], _∷_, map}
 use Prim.Native.Nat.{ℕ, suc, _≤_}
 use lib.ListN.{take, drop}
 use lib.Ieee.{Float, le}
-use Rattle.bits.specs.Bytes.{Bytes}
 use Rattle.hundredths.specs.declared.Rounding.the-variants.{Up}
 use Rattle.hundredths.specs.Reading.{mostSpeed, isBad, hundredthsOf}
 use Rattle.refusal.specs.declared.Verdict.{Verdict}
-use Rattle.refusal.specs.declared.Verdict.the-variants.{Accepted}
 use Rattle.sample.specs.declared.Sample.{Sample}
-use Rattle.sample.specs.Sample.{rawIn, readSample}
+use Rattle.sample.specs.Sample.{rawIn}
 use Rattle.decision.specs.declared.Decision.{Decision}
 use Rattle.decision.specs.Decision.{readDecision}
 use Rattle.brake.specs.declared.Choice.{Choice}
@@ -35,11 +33,25 @@ pub record Faster (m n : Sample) : Type 0 where
   pub rear : m .rear ≡ n .rear
   pub speed : n .speed ≤ m .speed
 
+-- how two samples' bytes agree
+abbrev pub Agreement : Type 1
+Agreement = (s s′ : List ℕ) → Type 0
+
+-- by what the rules read of them
+abbrev pub InHundredths : Agreement
+InHundredths s s′ = Faster (sampleIn s) (sampleIn s′)
+
+-- by bytes, outside the speed's four, of which the first's reading is no lower
+pub record ApartInSpeed (s s′ : List ℕ) : Type 0 where
+  pub before : take 8 s ≡ take 8 s′
+  pub behind : drop 12 s ≡ drop 12 s′
+  pub speed : le (rawIn s′ .speed) (rawIn s .speed) ≡ true
+
 -- "Profiles and targets agree call by call."
-pub record Beside (l l′ : Lent) : Type 0 where
+pub record Beside (Agree : Agreement) (l l′ : Lent) : Type 0 where
   pub profile : l .profile ≡ l′ .profile
   pub targets : l .targets ≡ l′ .targets
-  pub sample : Faster (sampleIn (l .sample)) (sampleIn (l′ .sample))
+  pub sample : Agree (l .sample) (l′ .sample)
 
 -- the calls of two trips, of the first and beside it of the second
 abbrev pub Trips : Type 0
@@ -51,9 +63,9 @@ first ps = map (λ p. p .0) ps
 abbrev pub second : Trips → List Lent
 second ps = map (λ p. p .1) ps
 
-abbrev pub EachBeside : Trips → Type 0
-EachBeside [] = Unit {0}
-EachBeside (p ∷ ps) = Beside (p .0) (p .1) × EachBeside ps
+abbrev pub EachBeside : Agreement → Trips → Type 0
+EachBeside Agree [] = Unit {0}
+EachBeside Agree (p ∷ ps) = Beside Agree (p .0) (p .1) × EachBeside Agree ps
 
 abbrev pub LendsTrips : Trips → Type 0
 LendsTrips [] = Unit {0}
@@ -92,9 +104,9 @@ untilPenalty [] = 0
 untilPenalty (d ∷ ds) = cond (d .penalty) 0 (suc (untilPenalty ds))
 
 -- "Two sessions open with the same consist and choices", from whatever stood before. "Then the first session's penalty comes no later than the second's."
-abbrev pub WholeTrip : {S T S′ T′ : Type 0} → Holding S T → Holding S′ T′ → Machine S T → Machine S′ T′ → Type 0
-WholeTrip {S} {T} {S′} {T′} h h′ m m′ =
-    (z : S) (z′ : S′) (s : List ℕ) (choice : Choice) (ps : Trips) → h .Fits z → h′ .Fits z′ → Lends (opening s choice) → LendsTrips ps → EachBeside ps →
+abbrev pub WholeTrip : Agreement → {S T S′ T′ : Type 0} → Holding S T → Holding S′ T′ → Machine S T → Machine S′ T′ → Type 0
+WholeTrip Agree {S} {T} {S′} {T′} h h′ m m′ =
+    (z : S) (z′ : S′) (s : List ℕ) (choice : Choice) (ps : Trips) → h .Fits z → h′ .Fits z′ → Lends (opening s choice) → LendsTrips ps → EachBeside Agree ps →
     let o = call m z (opening s choice) in
     let o′ = call m′ z′ (opening s choice) in
     Accepts h o → Accepts h′ o′ → AcceptsEach m h (o .state) (first ps) → AcceptsEach m′ h′ (o′ .state) (second ps) →
@@ -103,25 +115,18 @@ WholeTrip {S} {T} {S′} {T′} h h′ m m′ =
     EachNoLater ds ds′ × (untilPenalty ds ≤ untilPenalty ds′)
 
 -- the Rattle program or the C library, on either side
-pub record Trip-13 : Type 0 where
-  pub programs : (m m′ : Machine Session Verdict) → program.Meets m → program.Meets m′ → WholeTrip byValue byValue m m′
-  pub program-first : (m : Machine Session Verdict) (m′ : Machine (List ℕ) ℕ) → program.Meets m → library.Meets m′ → WholeTrip byValue inBytes m m′
-  pub library-first : (m : Machine (List ℕ) ℕ) (m′ : Machine Session Verdict) → library.Meets m → program.Meets m′ → WholeTrip inBytes byValue m m′
-  pub libraries : (m m′ : Machine (List ℕ) ℕ) → library.Meets m → library.Meets m′ → WholeTrip inBytes inBytes m m′
+pub record EitherSide (Agree : Agreement) : Type 0 where
+  pub programs : (m m′ : Machine Session Verdict) → program.Meets m → program.Meets m′ → WholeTrip Agree byValue byValue m m′
+  pub program-first : (m : Machine Session Verdict) (m′ : Machine (List ℕ) ℕ) → program.Meets m → library.Meets m′ → WholeTrip Agree byValue inBytes m m′
+  pub library-first : (m : Machine (List ℕ) ℕ) (m′ : Machine Session Verdict) → library.Meets m → program.Meets m′ → WholeTrip Agree inBytes byValue m m′
+  pub libraries : (m m′ : Machine (List ℕ) ℕ) → library.Meets m → library.Meets m′ → WholeTrip Agree inBytes inBytes m m′
 
--- ---- the premise, by readings and by bytes
+pub record Trip-13 : Type 0 where
+  pub in-hundredths : EitherSide InHundredths
+  pub in-bytes : EitherSide ApartInSpeed
+
+-- ---- readings
 
 -- "rounded up" keeps the order of readings that are not refused
 unfoldable pub SpeedsKeepOrder : Type 0
 SpeedsKeepOrder = (x y : Float) → isBad mostSpeed x ≡ false → isBad mostSpeed y ≡ false → le x y ≡ true → hundredthsOf Up x ≤ hundredthsOf Up y
-
--- samples that agree outside the speed's four bytes, of which the first's reading is no lower
-pub record ApartInSpeed (s s′ : List ℕ) : Type 0 where
-  pub before : take 8 s ≡ take 8 s′
-  pub behind : drop 12 s ≡ drop 12 s′
-  pub speed : le (rawIn s′ .speed) (rawIn s .speed) ≡ true
-
-unfoldable pub BytesFaster : Type 0
-BytesFaster =
-    (s s′ : List ℕ) → Bytes s → Bytes s′ → readSample s .0 ≡ Accepted → readSample s′ .0 ≡ Accepted → ApartInSpeed s s′
-    → Faster (sampleIn s) (sampleIn s′)
