@@ -12,8 +12,6 @@ pub mod Quiet
 pub mod Learnt
 pub mod Machine
 pub mod Emergency
-pub mod Faster
-pub mod Trips
 pub mod Locations
 pub mod RoundTrips
 pub mod Figures

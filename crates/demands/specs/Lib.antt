@@ -13,7 +13,6 @@ pub mod Learnt
 pub mod Demand2
 pub mod RoundTrips
 pub mod Demand3
-pub mod Trips
 pub mod Case
 pub mod Figures
 pub mod Useless

@@ -57,11 +57,11 @@ pub record Beside (Agree : Agreement) (l l′ : Lent) : Type 0 where
 abbrev pub Trips : Type 0
 Trips = List (Lent × Lent)
 
-abbrev pub first : Trips → List Lent
-first ps = map (λ p. p .0) ps
+abbrev pub firstTrip : Trips → List Lent
+firstTrip ps = map (λ p. p .0) ps
 
-abbrev pub second : Trips → List Lent
-second ps = map (λ p. p .1) ps
+abbrev pub secondTrip : Trips → List Lent
+secondTrip ps = map (λ p. p .1) ps
 
 abbrev pub EachBeside : Agreement → Trips → Type 0
 EachBeside Agree [] = Unit {0}
@@ -109,9 +109,9 @@ WholeTrip Agree {S} {T} {S′} {T′} h h′ m m′ =
     (z : S) (z′ : S′) (s : List ℕ) (choice : Choice) (ps : Trips) → h .Fits z → h′ .Fits z′ → Lends (opening s choice) → LendsTrips ps → EachBeside Agree ps →
     let o = call m z (opening s choice) in
     let o′ = call m′ z′ (opening s choice) in
-    Accepts h o → Accepts h′ o′ → AcceptsEach m h (o .state) (first ps) → AcceptsEach m′ h′ (o′ .state) (second ps) →
-    let ds = decisions m (o .state) (first ps) in
-    let ds′ = decisions m′ (o′ .state) (second ps) in
+    Accepts h o → Accepts h′ o′ → AcceptsEach m h (o .state) (firstTrip ps) → AcceptsEach m′ h′ (o′ .state) (secondTrip ps) →
+    let ds = decisions m (o .state) (firstTrip ps) in
+    let ds′ = decisions m′ (o′ .state) (secondTrip ps) in
     EachNoLater ds ds′ × (untilPenalty ds ≤ untilPenalty ds′)
 
 -- the Rattle program or the C library, on either side

@@ -36,12 +36,12 @@ use Rattle.sampling.specs.Sample.{sampleIn, brakeAfter, approach, lessonAfter, 
 use Rattle.sampling.specs.Steps.{rulesBefore}
 use Rattle.sampling.specs.Laws.{Lent}
 use Rattle.sampling.proofs.Laws.{standing-stays}
 use Rattle.demands.specs.Machine.{opening, sampling, Lends, Reply, Machine, call, ours, Holding, Holds, carry, Does, Accepts, recordOf}
-use Rattle.demands.specs.Trips.{Faster, Agreement, InHundredths, Beside, Trips, first, second, EachBeside, LendsTrips, AcceptsEach, decisions, NoLater, EachNoLater, untilPenalty, WholeTrip, EitherSide, Trip-13}
+use Rattle.trips.specs.Trips.{Faster, Agreement, InHundredths, Beside, Trips, firstTrip, secondTrip, EachBeside, LendsTrips, AcceptsEach, decisions, NoLater, EachNoLater, untilPenalty, WholeTrip, EitherSide, Trip-13}
 use Rattle.demands.proofs.Carried.{sampled, Lawful, next-holds}
 use Rattle.demands.proofs.Machine.{decisionBy, before, made, decided, not-zero, is-not-zero, own-call, some-cause, ready-of}
-use Rattle.demands.proofs.Faster.{Suffices, hundredths-suffice, bytes-suffice}
+use Rattle.trips.proofs.Faster.{MeansFaster, hundredths-mean-faster, bytes-mean-faster}
 use Rattle.demands.proofs.Contracts.{value-lawful, program-does, bytes-lawful, library-does}
 
 -- two sessions that only the causes tell apart, and the second's stands only where the first's does
 record Same (x y : Session) : Type 0 where
@@ -181,10 +181,10 @@ sample-read x l h =
     let (_, (length, (mark, (_, (_, (reading, _)))))) = none-holds (rulesBefore x (l .sample) (l .profile) (l .targets)) (before x l h) in
     passed _ _ _ length ∙ passed _ _ _ mark ∙ last-passed _ _ reading
 
-module _ (Agree : Agreement) (suffices : Suffices Agree) {S T S′ T′ : Type 0} (h : Holding S T) (h′ : Holding S′ T′) (w : Lawful h) (w′ : Lawful h′)
+module _ (Agree : Agreement) (means : MeansFaster Agree) {S T S′ T′ : Type 0} (h : Holding S T) (h′ : Holding S′ T′) (w : Lawful h) (w′ : Lawful h′)
     (m : Machine S T) (m′ : Machine S′ T′) (does : Does h m) (does′ : Does h′ m′) where
   each : (ps : Trips) (z : S) (z′ : S′) (x y : Session) → Holds h z x → Holds h′ z′ y → Same x y → LendsTrips ps → EachBeside Agree ps
-      → AcceptsEach m h z (first ps) → AcceptsEach m′ h′ z′ (second ps) → EachNoLater (decisions m z (first ps)) (decisions m′ z′ (second ps))
+      → AcceptsEach m h z (firstTrip ps) → AcceptsEach m′ h′ z′ (secondTrip ps) → EachNoLater (decisions m z (firstTrip ps)) (decisions m′ z′ (secondTrip ps))
   each [] z z′ x y o o′ same b beside a a′ = tt
   each (p ∷ ps) z z′ x y o o′ same b beside a a′ =
       let l = p .0 in
@@ -197,7 +197,7 @@ module _ (Agree : Agreement) (suffices : Suffices Agree) {S T S′ T′ : Type 0
       record {
         profile = beside .0 .profile;
         targets = beside .0 .targets;
-        sample = suffices _ _ (b .0 .0 .0) (b .1 .0 .0) (sample-read x l admitted) (sample-read y l′ admitted′) (beside .0 .sample);
+        sample = means _ _ (b .0 .0 .0) (b .1 .0 .0) (sample-read x l admitted) (sample-read y l′ admitted′) (beside .0 .sample);
       } in (
         subst₂ NoLater (sym (reads h w m does z x o l (b .0) (a .0))) (sym (reads h′ w′ m′ does′ z′ y o′ l′ (b .1) (a′ .0))) (no-later x y same l l′ faster ready ready′),
         each ps _ _ _ _ (next-held h w m does z x o l (b .0) (a .0)) (next-held h′ w′ m′ does′ z′ y o′ l′ (b .1) (a′ .0)) (next-same x y same l l′ faster ready ready′)
@@ -214,15 +214,15 @@ module _ (Agree : Agreement) (suffices : Suffices Agree) {S T S′ T′ : Type 0
       let every =
       each ps (call m z k .state) (call m′ z′ k .state) _ _ (next-holds h w m does z (h .session z) o k b) (next-holds h′ w′ m′ does′ z′ (h′ .session z′) o′ k b)
       (opened-same (h .session z) (h′ .session z′) s choice first-opens second-opens) bs beside all all′ in
-      (every, until (decisions m (call m z k .state) (first ps)) (decisions m′ (call m′ z′ k .state) (second ps)) every)
+      (every, until (decisions m (call m z k .state) (firstTrip ps)) (decisions m′ (call m′ z′ k .state) (secondTrip ps)) every)
 
-either-side : (Agree : Agreement) → Suffices Agree → EitherSide Agree
-either-side Agree suffices = record {
-  programs = λ m m′ met met′. whole-trip Agree suffices _ _ value-lawful value-lawful m m′ (program-does m met) (program-does m′ met′);
-  program-first = λ m m′ met met′. whole-trip Agree suffices _ _ value-lawful bytes-lawful m m′ (program-does m met) (library-does m′ met′);
-  library-first = λ m m′ met met′. whole-trip Agree suffices _ _ bytes-lawful value-lawful m m′ (library-does m met) (program-does m′ met′);
-  libraries = λ m m′ met met′. whole-trip Agree suffices _ _ bytes-lawful bytes-lawful m m′ (library-does m met) (library-does m′ met′);
+either-side : (Agree : Agreement) → MeansFaster Agree → EitherSide Agree
+either-side Agree means = record {
+  programs = λ m m′ met met′. whole-trip Agree means _ _ value-lawful value-lawful m m′ (program-does m met) (program-does m′ met′);
+  program-first = λ m m′ met met′. whole-trip Agree means _ _ value-lawful bytes-lawful m m′ (program-does m met) (library-does m′ met′);
+  library-first = λ m m′ met met′. whole-trip Agree means _ _ bytes-lawful value-lawful m m′ (library-does m met) (program-does m′ met′);
+  libraries = λ m m′ met met′. whole-trip Agree means _ _ bytes-lawful bytes-lawful m m′ (library-does m met) (library-does m′ met′);
 }
 
 pub trip-13 : Trip-13
-trip-13 = record { in-hundredths = either-side InHundredths hundredths-suffice; in-bytes = either-side _ bytes-suffice }
+trip-13 = record { in-hundredths = either-side InHundredths hundredths-mean-faster; in-bytes = either-side _ bytes-mean-faster }

@@ -25,7 +25,7 @@ use Rattle.record.specs.Record.{wrongLength}
 use Rattle.sample.specs.declared.RawSample.{RawSample}
 use Rattle.sample.specs.Sample.{size, leadWidths, readingWidths, widths, rearOf, rawIn, readSample, rearInHundredths}
 use Rattle.sample.proofs.Answers.{LaidOut, read-inv, each-good}
-use Rattle.demands.specs.Trips.{Agreement, InHundredths, ApartInSpeed, SpeedsKeepOrder}
+use Rattle.trips.specs.Trips.{Agreement, InHundredths, ApartInSpeed, SpeedsKeepOrder}
 
 -- ---- floats that are not below zero, by their sizes over one denominator
 
@@ -95,15 +95,15 @@ module _ (s : List ℕ) (h : readSample s .0 ≡ Accepted) where
   right = sym (ap (λ (r : RawSample). isBad mostSpeed (r .speed)) (laid .raw-in)) ∙ each-good raw (read-inv s raw (λ i. (h i, raw)) .1) .0
 
 -- samples that the reader accepts and that agree so are a faster one and a slower one
-abbrev pub Suffices : Agreement → Type 0
-Suffices Agree = (s s′ : List ℕ) → Bytes s → Bytes s′ → readSample s .0 ≡ Accepted → readSample s′ .0 ≡ Accepted → Agree s s′ → InHundredths s s′
+abbrev pub MeansFaster : Agreement → Type 0
+MeansFaster Agree = (s s′ : List ℕ) → Bytes s → Bytes s′ → readSample s .0 ≡ Accepted → readSample s′ .0 ≡ Accepted → Agree s s′ → InHundredths s s′
 
-pub hundredths-suffice : Suffices InHundredths
-hundredths-suffice s s′ b b′ h h′ faster = faster
+pub hundredths-mean-faster : MeansFaster InHundredths
+hundredths-mean-faster s s′ b b′ h h′ faster = faster
 
-pub bytes-suffice : Suffices ApartInSpeed
+pub bytes-mean-faster : MeansFaster ApartInSpeed
 unfolding SpeedsKeepOrder rawIn
-bytes-suffice s s′ b b′ h h′ apart =
+bytes-mean-faster s s′ b b′ h h′ apart =
     let mid = take 4 (drop 8 s) in
     let same : aside (fieldsIn widths s) ≡ aside (fieldsIn widths s′) =
     ap aside (parts s b (long s (laid s h .length)))

@@ -1,0 +1,3 @@
+-- Whole trips, from what is demanded of each call.
+pub mod Faster
+pub mod Trips
