@@ -1,4 +1,6 @@
 // A sample's refusals before the walk, 2 to 10, in the table's order, under a session's consist and brake.
+#![tactic(auto)]
+
 ghost use Rattle.std.specs.Prelude.{◌≡◌};
 ghost use Rattle.admission.specs.Table.{wrong_time, last_start, not_covered};
 ghost use Rattle.admission.specs.Steps.{no_entry, admit_raw, admit_of};

@@ -1,4 +1,6 @@
 // The air brakes as the rules change them: a start of applying, a start of charging, a fall.
+#![tactic(auto)]
+
 ghost use Rattle.std.specs.Prelude.{◌≡◌, ◌+◌, ◌*◌, ◌^◌, ◌≤◌, ◌<◌};
 ghost use Rattle.consist.specs.Sound as consist;
 ghost use Rattle.brake.specs.Sound.{most_b};

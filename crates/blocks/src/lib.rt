@@ -1,5 +1,7 @@
 // The blocks of a manifest train: records of 4 bytes behind a consist's 16, head end first.
 // `put` asks for room; the other public functions answer for every input.
+#![tactic(auto)]
+
 ghost use Rattle.std.specs.Prelude.{◌≡◌, ◌++◌, ◌&&◌, cond, ◌+◌, ◌*◌, ◌≤◌, ◌<◌, ◌^◌, min, leb, eqb, length, drop, get_or};
 ghost use Rattle.bits.specs.Bytes.{num};
 ghost use Rattle.bits.specs.Tables.{up_to};

@@ -1,4 +1,6 @@
 // The air brakes: what is held of them from sample to sample.
+#![tactic(auto)]
+
 mod invariant;
 
 ghost use Rattle.std.specs.Prelude.{◌≡◌};

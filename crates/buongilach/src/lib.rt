@@ -1,5 +1,7 @@
 // The library for C: the customer's calls with the session in lent bytes, the records, and the version. A slice is a pointer, then a length;
 // an answer is the refusal's number, 0 for none.
+#![tactic(auto)]
+
 pub mod records;
 
 ghost use Rattle.std.specs.Prelude.{◌≡◌};

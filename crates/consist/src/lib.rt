@@ -1,4 +1,6 @@
 // The consist: a record of 16 bytes, and the blocks that may follow it.
+#![tactic(auto)]
+
 ghost use Rattle.std.specs.Prelude.{◌≡◌, take, drop};
 ghost use Rattle.bits.specs.Places.{fields_from, put_from};
 ghost use Rattle.refusal.specs.Number.{told};

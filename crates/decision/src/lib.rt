@@ -1,4 +1,6 @@
 // The decision: a record of 8 bytes, of which a sample call writes two.
+#![tactic(auto)]
+
 ghost use Rattle.std.specs.Prelude.{◌≡◌};
 ghost use Rattle.bits.specs.Places.{fields_from, put_from};
 ghost use Rattle.refusal.specs.Number.{told};

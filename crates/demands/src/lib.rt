@@ -1,1 +1,2 @@
 // No running code: statements in specs/, proved in proofs/ from what the other crates prove.
+#![tactic(auto)]

@@ -1,4 +1,6 @@
 // The session program: a feed on standard input, its lines on standard output. One word may ask for the everlasting choice.
+#![tactic(auto)]
+
 use brake::Choice;
 use libc::{STDERR_FILENO, STDIN_FILENO, STDOUT_FILENO};
 

@@ -1,6 +1,8 @@
 // The session program over two descriptors: a feed is read from one, and its lines are written to the other. Nothing is read
 // past what is needed to answer, lines are written as soon as their sample is judged, and a feed of any length runs in the same
 // memory.
+#![tactic(auto)]
+
 ghost use Rattle.std.specs.Prelude.{◌≡◌, ◌≤◌, length};
 ghost use Rattle.io.specs.Counts.{IsPrefixLen};
 ghost use Rattle.opening.specs.Opening.{bytes_in, blocks_room, profile_room, targets_room};

@@ -1,5 +1,7 @@
 // Runs the session program on each stored feed that an argument names, under a line with the feed's name. The feeds after the word
 // `everlasting` are run by that choice.
+#![tactic(auto)]
+
 use brake::Choice;
 use libc::STDOUT_FILENO;
 

@@ -1,5 +1,7 @@
 // The record of an open session, for a customer who keeps the session in bytes from call to call and across a restart: its constants and its reader.
 // Crate `stored` writes it. It has a front of 66 bytes; where the consist has blocks, these follow it, with a check word of their own.
+#![tactic(auto)]
+
 ghost use Rattle.std.specs.Prelude.{◌≡◌, ◌≤◌, length, get_or};
 ghost use Rattle.refusal.specs.declared.Refusal.TheVariants.{NoSession};
 ghost use Rattle.session.specs.Session.{answer_told};

@@ -1,4 +1,6 @@
 // The judgement of targets: the offset, which are judged, the calls for the penalty and for emergency, and their causes.
+#![tactic(auto)]
+
 ghost use Rattle.std.specs.Prelude.{◌≡◌, min};
 ghost use Rattle.targets.specs.Targets.{most};
 ghost use Rattle.judge.specs.Judge.{is_judged, offset_for, is_called, cause_of, standing, is_emergency_called, emergency_cause_of};

@@ -1,1 +1,2 @@
 // No running code: laws and figures of the layers that no code's proof needs.
+#![tactic(auto)]

@@ -1,4 +1,6 @@
 // Learning the application time from the rear pressure in a service application. Of the points their sums are kept.
+#![tactic(auto)]
+
 ghost use Rattle.std.specs.Prelude.{◌≡◌, ◌<◌};
 ghost use Rattle.learn.specs.Stage.{stage_number, stage_of, without_points, bare, is_at_opening};
 ghost use Rattle.learn.specs.Sound.{Sound, is_sound};

@@ -1,5 +1,7 @@
 // A session in lent bytes, its buffer: its record, which crates `held` and `stored` read and write, stands at their start, and zeros behind it, 326 bytes
 // in all. No call reads a byte past the record or writes one past these. An answer is the refusal's number, 0 for none.
+#![tactic(auto)]
+
 ghost use Rattle.std.specs.Prelude.{◌≡◌, true, ◌++◌, ◌≤◌, length, drop};
 ghost use Rattle.session.specs.Session.{is_open};
 ghost use Rattle.held.specs.Held.{most};

@@ -1,5 +1,7 @@
 // The lines that the session program prints. A line is built from its end, since a number's last digit is the first that a
 // division gives.
+#![tactic(auto)]
+
 ghost use Rattle.std.specs.Prelude.{◌≡◌, [], ◌∷◌, ◌++◌, ◌+◌, ◌*◌, ◌≤◌, min, length};
 ghost use Rattle.decision.specs.Decision.{read_decision};
 ghost use Rattle.line.specs.Line.{decimal, spaced, refusal_text, record_text, sample_text, put_before, put_last, line_room};

@@ -1,4 +1,6 @@
 // What opens a feed: the word that asks for a choice, the counts, and the lists that they announce.
+#![tactic(auto)]
+
 ghost use Rattle.std.specs.Prelude.{◌≡◌, ◌&&◌, ◌*◌, ◌^◌, ◌<◌, ◌≤◌, leb};
 ghost use Rattle.opening.specs.Opening.{Tells, everlasting, announced, blocks_ahead, profile_ahead, targets_ahead, is_accepted, taken, blocks_taken, profile_taken, targets_taken};
 

@@ -1,4 +1,6 @@
 // The predictions that a sample makes: the walk from the brake and the sample on, judged by the targets, and behind a penalty the same by emergency air.
+#![tactic(auto)]
+
 ghost use Rattle.std.specs.Prelude.{◌≡◌};
 ghost use Rattle.track.specs.Totals.{AreTotals};
 ghost use Rattle.track.specs.Steps.{track_of};

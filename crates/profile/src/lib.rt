@@ -1,4 +1,6 @@
 // The profile: records of 6 bytes, each a segment of track.
+#![tactic(auto)]
+
 ghost use Rattle.std.specs.Prelude.{◌≡◌, true, ◌&&◌, ◌||◌, ◌^◌, ◌<◌, length, eqb, ltb};
 ghost use Rattle.std.specs.Int.Signed.{mag};
 ghost use Rattle.bits.specs.Places.{put_from};

@@ -1,4 +1,6 @@
 // What a sample brings, counted from the one before.
+#![tactic(auto)]
+
 ghost use Rattle.std.specs.Prelude.{◌≡◌};
 ghost use Rattle.reading.specs.Readings.{elapsed_of, rate_of, heard_after, is_kept, lost_rear, rear_taken, nominal_of, application, release, emergency, reading_of};
 

@@ -1,4 +1,6 @@
 // The sample: a record of 20 bytes. Its layout is read first, the readings as raw floats, and the readings are judged after that.
+#![tactic(auto)]
+
 ghost use Rattle.std.specs.Prelude.{◌≡◌};
 ghost use Rattle.bits.specs.Fields.{Fit};
 ghost use Rattle.bits.specs.Places.{fields_from, put_from};

@@ -1,4 +1,6 @@
 // A sample call: an open session is fed one sample a second.
+#![tactic(auto)]
+
 ghost use Rattle.std.specs.Prelude.{◌≡◌};
 ghost use Rattle.prediction.specs.Steps.{Ready};
 ghost use Rattle.session.specs.Session.{call_told};

@@ -1,4 +1,6 @@
 // The check word of bytes, and records that end with it: damage to one or two bytes is seen.
+#![tactic(auto)]
+
 ghost use Rattle.std.specs.Prelude.{◌≡◌};
 ghost use Rattle.seal.specs.Seal.{check_word, is_sealed, resealed};
 

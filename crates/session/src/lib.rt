@@ -1,4 +1,6 @@
 // A session: what is held from call to call, and its opening.
+#![tactic(auto)]
+
 ghost use Rattle.std.specs.Prelude.{◌≡◌};
 ghost use Rattle.session.specs.Session.{is_open, none_open, session_told, answer_told};
 ghost use Rattle.session.specs.Open.{open_of};

@@ -1,5 +1,7 @@
 // The average grade and curvature of the track under a train, by the weight of its blocks; without blocks, as `track` has them.
 // `under` asks for a gentle track, that track's totals, and blocks that are right for the train's length and weight.
+#![tactic(auto)]
+
 ghost use Rattle.std.specs.Prelude.{◌≡◌, ◌-◌, ◌*◌, ◌^◌, ◌≤◌, ◌<◌, nat_abs};
 ghost use Rattle.blocks.specs.Sound.{Sound};
 ghost use Rattle.track.specs.Gentle.{Gentle};

@@ -1,5 +1,7 @@
 // One step of the walk, 16 ft, under the brake force that a curve makes as the clock runs.
 // `stepped` asks for the ranges of specs/Range.antt, in which every number fits its word.
+#![tactic(auto)]
+
 ghost use Rattle.std.specs.Prelude.{◌≡◌, pos, ◌-ℤ◌};
 ghost use Rattle.whole.specs.Floor.{cut};
 ghost use Rattle.step.specs.Curve.{force_at, penalty_curve, emergency_curve};

@@ -1,4 +1,6 @@
 // The writer of an open session's record, which crate `held` defines and reads.
+#![tactic(auto)]
+
 ghost use Rattle.std.specs.Prelude.{◌≡◌, true, ◌++◌, ◌≤◌, length, take, drop};
 ghost use Rattle.bits.specs.Places.{put_from};
 ghost use Rattle.blocks.specs.Blocks as blocks;

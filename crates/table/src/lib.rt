@@ -1,4 +1,6 @@
 // What every table of records has in common: where its records are.
+#![tactic(auto)]
+
 ghost use Rattle.std.specs.Prelude.{◌≡◌, ◌<◌};
 ghost use Rattle.table.specs.Table.{part_at};
 

@@ -1,4 +1,6 @@
 // The targets: records of 5 bytes, each a place and the speed asked for there.
+#![tactic(auto)]
+
 ghost use Rattle.std.specs.Prelude.{◌≡◌, ◌&&◌, ◌||◌, ◌<◌, length, eqb, ltb};
 ghost use Rattle.bits.specs.Places.{put_from};
 ghost use Rattle.refusal.specs.Number.{told};

@@ -1,4 +1,6 @@
 // The records told as numbers: each record's judge over lent bytes, and a decision's numbers. An answer is the refusal's number, 0 for none.
+#![tactic(auto)]
+
 ghost use Rattle.std.specs.Prelude.{◌≡◌, ◌++◌, ◌≤◌};
 ghost use Rattle.std.proofs.Math.ListN as list;
 ghost use Rattle.tells.specs.Judged.{consist_judged, profile_judged, targets_judged, sample_judged, decision_numbers, numbers_of, decision_as_read};

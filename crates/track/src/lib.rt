@@ -1,5 +1,7 @@
 // A profile laid out as a track, its running totals, and the average grade and curvature of the track under a train.
 // `reached_at` and `under_train` ask for a gentle track and that track's totals; the other public functions answer for every input.
+#![tactic(auto)]
+
 ghost use Rattle.std.specs.Prelude.{◌≡◌, ◌-◌, ◌/◌, ◌≤◌, ◌<◌, min, get_or, pos, nat_abs, ◌*ℤ◌};
 ghost use Rattle.whole.specs.Floor.{floor_div};
 ghost use Rattle.profile.specs.Profile.{most};

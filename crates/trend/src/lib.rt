@@ -1,5 +1,7 @@
 // The least-squares line through the points of a falling rear pressure, by their sums, and the application time that it gives.
 // Every public function but `is_sound` and `none` asks for sums that are small enough for its words.
+#![tactic(auto)]
+
 ghost use Rattle.std.specs.Prelude.{◌≡◌, ◌*◌, ◌<◌, pos, ◌-ℤ◌, ◌*ℤ◌};
 ghost use Rattle.trend.specs.Points.{with_point, no_sums};
 ghost use Rattle.trend.specs.Sound.{word_most, Sound, Small, Room, Fraction, Quotient, is_sound};

@@ -1,4 +1,6 @@
 // What becomes of the air brakes with one accepted sample.
+#![tactic(auto)]
+
 mod states;
 
 ghost use Rattle.std.specs.Prelude.{◌≡◌};

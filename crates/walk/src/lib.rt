@@ -1,5 +1,7 @@
 // The walk: the train's predicted run, in steps of 16 ft, with the brakes applied from its start.
 // `predict` asks for the ranges of specs/Range.antt, in which every number fits its word.
+#![tactic(auto)]
+
 ghost use Rattle.std.specs.Prelude.{◌≡◌, ◌&&◌, ◌*◌, leb, ltb};
 ghost use Rattle.track.specs.Totals.{AreTotals};
 ghost use Rattle.track.specs.Steps.{track_of};

@@ -1,6 +1,7 @@
 // The lesser, the greater and the difference of natural numbers, division down and up to a whole number, and the whole square root.
 // Every public function answers for every input.
 // Assumes nothing.
+#![tactic(auto)]
 
 ghost use Rattle.std.specs.Prelude.{◌≡◌, ◌+◌, ◌*◌, ◌-◌, min, max};
 ghost use Rattle.whole.specs.Floor.{floor_div};

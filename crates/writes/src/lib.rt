@@ -1,5 +1,7 @@
 // The records from numbers: each record's writer over plain numbers and lent bytes. A reading is the 32 bits of a binary32; an answer is the
 // refusal's number, 0 for none.
+#![tactic(auto)]
+
 ghost use Rattle.std.specs.Prelude.{◌≡◌, [], ◌∷◌, ltb};
 ghost use Rattle.refusal.specs.Lowest.{lowest};
 ghost use Rattle.refusal.specs.Number.{told};
