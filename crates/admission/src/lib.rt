@@ -12,7 +12,7 @@ use refusal::{Refusal, Verdict};
 use sample::{RawSample, RearPressure, Sample};
 
 // The sample to go on with; where it is refused, that is all zero and its rear lost.
-#[derive(Drop)]
+#[derive(Clone, Copy)]
 pub struct Entry {
     pub verdict: Verdict,
     pub sample: Sample,

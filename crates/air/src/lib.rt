@@ -13,7 +13,7 @@ use consist::Consist;
 use reading::Reading;
 
 // What the rules change of a brake: all that is held but the last sample's readings.
-#[derive(Drop)]
+#[derive(Clone, Copy)]
 pub struct Air {
     pub state: State,
     pub hold: u16,

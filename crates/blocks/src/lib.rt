@@ -10,7 +10,7 @@ ghost use Rattle.blocks.specs.Blocks.{size, most, none, sum_to, each_right, sums
 ghost use Rattle.blocks.specs.Steps.{blocks_of, empty, field_in, word_of};
 
 // As a value: block k at place k of each array; past the last, zeros.
-#[derive(Drop)]
+#[derive(Clone, Copy)]
 pub struct Blocks {
     pub count: u8,
     // feet

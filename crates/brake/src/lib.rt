@@ -11,7 +11,7 @@ ghost use Rattle.brake.specs.Equalization.{equalization_service};
 
 use consist::Consist;
 
-#[derive(Drop)]
+#[derive(Clone, Copy)]
 pub enum State {
     Charged,
     ApplyingService,
@@ -22,7 +22,7 @@ pub enum State {
 }
 
 // What a lost rear counts as, by the opening's choice.
-#[derive(Drop)]
+#[derive(Clone, Copy)]
 pub enum Choice {
     // the last present value for 5 seconds, then front: the default
     FiveSeconds,
@@ -31,7 +31,7 @@ pub enum Choice {
 }
 
 // When the rear was last present.
-#[derive(Drop)]
+#[derive(Clone, Copy)]
 pub enum Heard {
     Never,
     // seconds
@@ -39,7 +39,7 @@ pub enum Heard {
 }
 
 // What is held from sample to sample, pressures in hundredths of a psi. The set pressure is the consist's.
-#[derive(Drop)]
+#[derive(Clone, Copy)]
 pub struct Brake {
     pub state: State,
     // pipe pressure

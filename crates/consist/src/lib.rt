@@ -9,7 +9,7 @@ ghost use Rattle.consist.specs.Consist.{widths, fields_of, of_fields, with_block
 use blocks::Blocks;
 use refusal::{Refusal, Step, Verdict};
 
-#[derive(Drop)]
+#[derive(Clone, Copy)]
 pub struct Consist {
     pub cars: u16,
     pub axles: u16,
@@ -60,7 +60,7 @@ impl Consist {
 }
 
 // What reading a consist answers; where it is refused, the consist is all zero, without blocks.
-#[derive(Drop)]
+#[derive(Clone, Copy)]
 pub struct Answer {
     pub verdict: Verdict,
     pub consist: Consist,

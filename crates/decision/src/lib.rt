@@ -8,7 +8,7 @@ ghost use Rattle.decision.specs.Decision.{widths, mark_of, fields_of, of_fields,
 
 use refusal::{Refusal, Step, Verdict};
 
-#[derive(Drop)]
+#[derive(Clone, Copy)]
 pub struct Decision {
     // the second record of a sample call, where penalty, cause and stop are the emergency's
     pub emergency: bool,
@@ -36,7 +36,7 @@ impl Decision {
 }
 
 // What reading a decision answers; where it is refused, the decision is all zero.
-#[derive(Drop)]
+#[derive(Clone, Copy)]
 pub struct Answer {
     pub verdict: Verdict,
     pub decision: Decision,

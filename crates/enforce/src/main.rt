@@ -2,31 +2,38 @@
 #![tactic(auto)]
 
 use brake::Choice;
-use libc::{STDERR_FILENO, STDIN_FILENO, STDOUT_FILENO};
+use std::env::{Env, FillError};
 
-// Runs the feed where argument 1 is the one word that there is; any other is said to be wrong, and nothing is read.
-fn run_by_word() {
-    let mut word = io::buffer();
-    let length = os::arg(1, &mut word);
-    if opening::is_everlasting(&word[..length]) {
-        feed::run(STDIN_FILENO, STDOUT_FILENO, Choice::Everlasting);
-        return;
+// Bytes that hold the longest word that asks for a choice.
+const WORD_ROOM: usize = 11;
+
+// The choice that the words ask for; none where they are wrong.
+fn choice<E: Env>(words: &E) -> Option<Choice> {
+    let mut word = [0u8; WORD_ROOM];
+    match words.arg(1, &mut word) {
+        Err(FillError::NotPresent) => Some(Choice::FiveSeconds),
+        Err(FillError::TooLong) => None,
+        Ok(n) => {
+            if opening::is_everlasting(&word[..n]) & is_last(words) {
+                Some(Choice::Everlasting)
+            } else {
+                None
+            }
+        }
     }
-    say_words();
 }
 
-// A program here has no exit status: `./run`, which knows the words too, gives one.
-fn say_words() {
-    io::write_all(STDERR_FILENO, b"enforce: one word at most, everlasting\n");
+// Whether no word follows the first.
+fn is_last<E: Env>(words: &E) -> bool {
+    matches!(words.arg(2, &mut []), Err(FillError::NotPresent))
 }
 
-fn main() {
-    let count = os::arg_count();
-    if count <= 1 {
-        feed::run(STDIN_FILENO, STDOUT_FILENO, Choice::FiveSeconds);
-    } else if count == 2 {
-        run_by_word();
-    } else {
-        say_words();
+// Runs the feed where no word is wrong; else that is said, and nothing is read.
+fn main(rt: HostRuntime) {
+    match choice(&rt) {
+        Some(choice) => feed::run(&mut rt.stdin(), &mut rt.stdout(), choice),
+        None => {
+            let _ = eprintln!(rt; "enforce: one word at most, everlasting");
+        }
     }
 }

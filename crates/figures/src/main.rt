@@ -3,41 +3,34 @@
 #![tactic(auto)]
 
 use brake::Choice;
-use libc::STDOUT_FILENO;
+use std::fs::File;
+use std::{env, io};
 
-fn print_name(name: &[u8]) {
-    io::write_all(STDOUT_FILENO, b"== ");
-    io::write_all(STDOUT_FILENO, name);
-    io::write_all(STDOUT_FILENO, b"\n");
+fn print_name(rt: &HostRuntime, name: &str) -> io::Result<()> {
+    println!(rt; "== {name}")
 }
 
 // Runs a feed, or says why it can't be opened.
-fn run_feed(name: &[u8], choice: Choice) {
-    let input = os::open_read(name);
-    if input < 0 {
-        os::fail(name);
-        return;
+fn run_feed(rt: &HostRuntime, name: &str, choice: Choice) -> io::Result<()> {
+    match File::open(rt, name) {
+        Ok(mut input) => {
+            print_name(rt, name)?;
+            feed::run(&mut input, &mut rt.stdout(), choice);
+            Ok(())
+        }
+        Err(e) => eprintln!(rt; "{name}: {e}"),
     }
-    print_name(name);
-    feed::run(input, STDOUT_FILENO, choice);
-    libc::close(input);
 }
 
-// Takes argument i, and answers the choice from then on.
-fn run_one(i: usize, choice: Choice) -> Choice {
-    let mut name = io::buffer();
-    let length = os::arg(i, &mut name);
-    if opening::is_everlasting(&name[..length]) {
-        print_name(&name[..length]);
-        return Choice::Everlasting;
-    }
-    run_feed(&name[..length], choice);
-    choice
-}
-
-fn main() {
+fn main(rt: HostRuntime) -> io::Result<()> {
     let mut choice = Choice::FiveSeconds;
-    for i in 1..os::arg_count() {
-        choice = run_one(i, choice);
+    for name in env::args(&rt)?.skip(1) {
+        if opening::is_everlasting(name.as_bytes()) {
+            print_name(&rt, name.as_str())?;
+            choice = Choice::Everlasting;
+        } else {
+            run_feed(&rt, name.as_str(), choice)?;
+        }
     }
+    Ok(())
 }

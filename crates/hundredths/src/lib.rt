@@ -23,21 +23,21 @@ const INFINITY: u32 = 0x7f80_0000;
 // The one pattern that is written for a NaN.
 const NAN: u32 = 0x7fc0_0000;
 
-#[derive(Drop)]
+#[derive(Clone, Copy)]
 pub enum Reading {
     Hundredths(u16),
     Refused,
 }
 
 // Public for the definitions behind the contracts.
-#[derive(Drop)]
+#[derive(Clone, Copy)]
 pub enum Rounding {
     Up,
     Down,
 }
 
 // digits / 2 ^ places
-#[derive(Drop)]
+#[derive(Clone, Copy)]
 struct Fraction {
     digits: u32,
     places: u32,

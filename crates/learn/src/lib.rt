@@ -10,7 +10,7 @@ ghost use Rattle.learn.specs.Kept.{without, added_to, further_to, first_to, hear
 use sample::RearPressure;
 use trend::{Learnt, Sums};
 
-#[derive(Drop)]
+#[derive(Clone, Copy)]
 pub enum Stage {
     Waiting,
     // the front fell, and no rear was present since
@@ -23,7 +23,7 @@ pub enum Stage {
 }
 
 // What is kept from sample to sample; what a stage has no use for is 0.
-#[derive(Drop)]
+#[derive(Clone, Copy)]
 pub struct Learner {
     pub stage: Stage,
     // when the front fell, seconds
@@ -39,7 +39,7 @@ pub struct Learner {
 }
 
 // What a sample shows, after its update.
-#[derive(Drop)]
+#[derive(Clone, Copy)]
 pub struct Shown {
     // whether the brake applies or holds service
     pub service: bool,
@@ -52,7 +52,7 @@ pub struct Shown {
 }
 
 // What a sample teaches.
-#[derive(Drop)]
+#[derive(Clone, Copy)]
 pub struct Lesson {
     pub learner: Learner,
     pub learnt: Learnt,

@@ -20,7 +20,7 @@ use targets::Target;
 use track::{Totals, Track};
 
 // The targets of a call, place by place; zeros past the last.
-#[derive(Drop)]
+#[derive(Clone, Copy)]
 pub struct Listed {
     pub count: usize,
     pub locations: [u32; Target::MOST],
@@ -28,7 +28,7 @@ pub struct Listed {
 }
 
 // The stopping location, and the cause that is called for, 0 for none; and the same of emergency, both 0 where no penalty stands.
-#[derive(Drop)]
+#[derive(Clone, Copy)]
 pub struct Outcome {
     pub stop: u32,
     pub called: u8,

@@ -11,7 +11,7 @@ ghost use Rattle.profile.specs.Profile.{widths, fields_of, in_range, segment_at,
 use refusal::{Refusal, Step, Verdict};
 
 // The track from a record's start to the next one's.
-#[derive(Drop)]
+#[derive(Clone, Copy)]
 pub struct Segment {
     // feet
     pub start: u32,
@@ -38,7 +38,7 @@ impl Segment {
 }
 
 // What judging a profile answers: how many records it has; none where it is refused.
-#[derive(Drop)]
+#[derive(Clone, Copy)]
 pub struct Judged {
     pub verdict: Verdict,
     pub records: usize,

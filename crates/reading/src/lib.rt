@@ -9,7 +9,7 @@ use consist::Consist;
 use sample::RearPressure;
 
 // What the rules read of a sample.
-#[derive(Drop)]
+#[derive(Clone, Copy)]
 pub struct Reading {
     // seconds
     pub elapsed: u32,

@@ -10,7 +10,7 @@ ghost use Rattle.sample.specs.Sample.{reading_widths, widths, present_bit, rear_
 use hundredths::Reading;
 use refusal::{Refusal, Step, Verdict};
 
-#[derive(Drop)]
+#[derive(Clone, Copy)]
 pub enum Rear {
     // psi
     Present(f32),
@@ -18,7 +18,7 @@ pub enum Rear {
 }
 
 // The readings as received.
-#[derive(Drop)]
+#[derive(Clone, Copy)]
 pub struct RawSample {
     // seconds
     pub time: u32,
@@ -40,20 +40,20 @@ impl RawSample {
 
 // What laying out and reading a record answer; where it is refused, the raw sample is all zero and its rear lost.
 // A raw sample that is only laid out has readings that are not judged: any may be a NaN.
-#[derive(Drop)]
+#[derive(Clone, Copy)]
 pub struct Answer {
     pub verdict: Verdict,
     pub raw: RawSample,
 }
 
-#[derive(Drop)]
+#[derive(Clone, Copy)]
 pub enum RearPressure {
     Present(u16),
     Lost,
 }
 
 // The readings in hundredths.
-#[derive(Drop)]
+#[derive(Clone, Copy)]
 pub struct Sample {
     pub time: u32,
     pub head: u32,
@@ -62,14 +62,14 @@ pub struct Sample {
     pub rear: RearPressure,
 }
 
-#[derive(Drop)]
+#[derive(Clone, Copy)]
 struct RearFields {
     present: u64,
     bits: u32,
 }
 
 // What judging the readings answers; where one is refused, the sample is all zero and its rear lost.
-#[derive(Drop)]
+#[derive(Clone, Copy)]
 pub struct Judged {
     pub verdict: Verdict,
     pub sample: Sample,

@@ -19,7 +19,7 @@ use session::{Answer, Session};
 use trend::Learnt;
 
 // What an admitted sample makes of the session, what is decided, and what of emergency.
-#[derive(Drop)]
+#[derive(Clone, Copy)]
 pub struct After {
     pub session: Session,
     pub decision: Decision,

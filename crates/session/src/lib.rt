@@ -13,7 +13,7 @@ use refusal::Verdict;
 use targets::Target;
 
 // What is held from call to call.
-#[derive(Drop)]
+#[derive(Clone, Copy)]
 pub struct Session {
     // by an opening
     pub opened: bool,
@@ -29,7 +29,7 @@ pub struct Session {
 }
 
 // What a call hands back: the session from now on, and what it has to say.
-#[derive(Drop)]
+#[derive(Clone, Copy)]
 pub struct Answer {
     pub session: Session,
     pub verdict: Verdict,

@@ -19,7 +19,7 @@ use track::{Sums, Under};
 pub const ENDS: usize = 65;
 
 // The total of blocks' shares.
-#[derive(Drop)]
+#[derive(Clone, Copy)]
 struct Shares {
     grade: i64,
     curvature: u64,

@@ -52,10 +52,10 @@ step_time s = 12000000 / (11 * s)
 
 -- the step, under a brake force that is a function of t; a q below zero counts as zero. "s = whole square root of q." "Head gains 16."
 unfoldable pub step_of : Consist → (ℕ → ℕ) → Ground → Run → Run
-step_of c force ground r = record {
+step_of c force terrain r = record {
   head = r.head + 16;
   clock = r.clock + step_time (root_of r.q);
-  q = cut (pos r.q -ℤ loss c (force r.clock) (root_of r.q) r.q (ground.grade r.head) (ground.curvature r.head));
+  q = cut (pos r.q -ℤ loss c (force r.clock) (root_of r.q) r.q (terrain.grade r.head) (terrain.curvature r.head));
 }
 
 -- ---- what a step reads of a consist

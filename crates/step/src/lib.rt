@@ -12,7 +12,7 @@ use consist::Consist;
 use track::Under;
 
 // What the cylinder pressure does as the clock runs: base + gain × min(slope × t / per, most) / 2.
-#[derive(Drop)]
+#[derive(Clone, Copy)]
 pub struct Curve {
     pub base: u64,
     pub gain: u64,
@@ -22,7 +22,7 @@ pub struct Curve {
 }
 
 // What a step reads of a consist.
-#[derive(Drop)]
+#[derive(Clone, Copy)]
 pub struct Load {
     pub cars: u16,
     pub axles: u16,
@@ -33,7 +33,7 @@ pub struct Load {
 }
 
 // The moving part of a walk: head location, clock in ms, squared speed.
-#[derive(Drop)]
+#[derive(Clone, Copy)]
 pub struct Run {
     pub head: u32,
     pub clock: u64,

@@ -8,7 +8,7 @@ ghost use Rattle.targets.specs.Targets.{widths, fields_of, in_range, target_at, 
 
 use refusal::{Refusal, Step, Verdict};
 
-#[derive(Drop)]
+#[derive(Clone, Copy)]
 pub struct Target {
     // feet
     pub location: u32,
@@ -27,7 +27,7 @@ impl Target {
 }
 
 // What judging targets answers: how many records there are; none where they are refused.
-#[derive(Drop)]
+#[derive(Clone, Copy)]
 pub struct Judged {
     pub verdict: Verdict,
     pub records: usize,

@@ -13,7 +13,7 @@ ghost use Rattle.track.specs.Steps.{track_of, Sized, Plus, kept_in, Rises, From,
 use profile::Segment;
 
 // A profile laid out: record k at place k of each array.
-#[derive(Drop)]
+#[derive(Clone, Copy)]
 pub struct Track {
     pub count: usize,
     pub starts: [u32; Segment::MOST],
@@ -22,14 +22,14 @@ pub struct Track {
 }
 
 // G and C: the averages under a train.
-#[derive(Drop)]
+#[derive(Clone, Copy)]
 pub struct Under {
     pub grade: i64,
     pub curvature: u64,
 }
 
 // What is found under a train: G and C, and the segments that its head and its rear are in.
-#[derive(Drop)]
+#[derive(Clone, Copy)]
 pub struct Found {
     pub under: Under,
     pub head_in: usize,
@@ -37,28 +37,28 @@ pub struct Found {
 }
 
 // Running totals of grade × feet and curvature × feet: in place k those of a track's first k segments; past the last, zeros.
-#[derive(Drop)]
+#[derive(Clone, Copy)]
 pub struct Totals {
     pub grades: [i64; Segment::MOST],
     pub curvatures: [u64; Segment::MOST],
 }
 
 // A sum of grade × feet and one of curvature × feet.
-#[derive(Drop)]
+#[derive(Clone, Copy)]
 pub struct Sums {
     pub grade: i64,
     pub curvature: u64,
 }
 
 // Where a location is: the segment that it is in, and the feet that it is past that segment's start.
-#[derive(Drop)]
+#[derive(Clone, Copy)]
 struct Place {
     segment: usize,
     feet: u32,
 }
 
 // The totals at a location, and the segment that it is in.
-#[derive(Drop)]
+#[derive(Clone, Copy)]
 pub struct Reached {
     pub sums: Sums,
     pub segment: usize,

@@ -9,7 +9,7 @@ ghost use Rattle.trend.specs.Line.{slope_top, intercept_top, bottom, levels_off}
 ghost use Rattle.trend.specs.Result.{dividend, divisor, rounded_up, in_range, time_of, result_of};
 
 // The sums of points (t, p), t in seconds, p in hundredths of a psi.
-#[derive(Drop)]
+#[derive(Clone, Copy)]
 pub struct Sums {
     // N
     pub count: u16,
@@ -24,7 +24,7 @@ pub struct Sums {
 }
 
 // What was learnt of the application time.
-#[derive(Drop)]
+#[derive(Clone, Copy)]
 pub enum Learnt {
     Nothing,
     // ms

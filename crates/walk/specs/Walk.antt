@@ -23,17 +23,17 @@ arrival_by false h rest = rest
 -- document 02's R-2: whether "to the end of the walk", where q is "0 or less", q "stays at or below" the limit; "A walk cut at its step limit", here
 -- after n steps, "with q above 0" does not
 unfoldable pub stays : Consist → (ℕ → ℕ) → Ground → ℕ → ℕ → Run → Bool
-stays c force ground limit zero r = leb r.q 0
-stays c force ground limit (suc n) r =
-    let rest : Bool = stays c force ground limit n (step_of c force ground r) in
+stays c force terrain limit zero r = leb r.q 0
+stays c force terrain limit (suc n) r =
+    let rest : Bool = stays c force terrain limit n (step_of c force terrain r) in
     leb r.q 0 || leb r.q limit && rest
 
 -- "the first head from which" it does, in n steps
 unfoldable pub walk_to : Consist → (ℕ → ℕ) → Ground → ℕ → ℕ → Run → Arrival
-walk_to c force ground limit zero r = arrival_by (stays c force ground limit zero r) r.head never
-walk_to c force ground limit (suc n) r =
-    let rest : Arrival = walk_to c force ground limit n (step_of c force ground r) in
-    arrival_by (stays c force ground limit (suc n) r) r.head rest
+walk_to c force terrain limit zero r = arrival_by (stays c force terrain limit zero r) r.head never
+walk_to c force terrain limit (suc n) r =
+    let rest : Arrival = walk_to c force terrain limit n (step_of c force terrain r) in
+    arrival_by (stays c force terrain limit (suc n) r) r.head rest
 
 -- "It starts with clock t = 0, squared speed q = speed squared."
 abbrev pub start : ℕ → ℕ → Run
@@ -41,7 +41,7 @@ start head v = record { head = head; clock = 0; q = v * v }
 
 -- "The location becomes the first head from which, to the end of the walk, the speed stays at or below the target's." For the stop the speed is 0.
 unfoldable pub arrival_for : Consist → (ℕ → ℕ) → Ground → ℕ → ℕ → ℕ → Arrival
-arrival_for c force ground head v u = walk_to c force ground (u * u) steps_most (start head v)
+arrival_for c force terrain head v u = walk_to c force terrain (u * u) steps_most (start head v)
 
 -- as in the decision's record: "16,777,215 for no stop"
 abbrev pub location_of : Arrival → ℕ
@@ -50,7 +50,7 @@ location_of never = no_stop
 
 -- one walk: the stop, and the location for each target speed
 unfoldable pub predict_of : Consist → (ℕ → ℕ) → Ground → ℕ → ℕ → List ℕ → Prediction
-predict_of c force ground head v speeds = record {
-  stop = location_of (arrival_for c force ground head v 0);
-  arrivals = map (λ u. location_of (arrival_for c force ground head v u)) speeds;
+predict_of c force terrain head v speeds = record {
+  stop = location_of (arrival_for c force terrain head v 0);
+  arrivals = map (λ u. location_of (arrival_for c force terrain head v u)) speeds;
 }

@@ -23,14 +23,14 @@ const STEPS_MOST: u32 = 2_048;
 pub const REACH: u64 = 32_768;
 
 // What a walk finds: the stopping location, and the location for each target speed.
-#[derive(Drop)]
+#[derive(Clone, Copy)]
 pub struct Prediction {
     pub stop: u32,
     pub arrivals: [u32; Target::MOST],
 }
 
 // While q is above `low` and not above `high`, no arrival changes.
-#[derive(Drop)]
+#[derive(Clone, Copy)]
 struct Band {
     low: u64,
     high: u64,

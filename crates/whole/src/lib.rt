@@ -53,7 +53,7 @@ pub fn ceil_div(a: u64, b: u64) -> u64
 }
 
 // A square root worked in long hand: the root of the bits brought down so far, and the rest that its square leaves of them.
-#[derive(Drop)]
+#[derive(Clone, Copy)]
 struct LongHand {
     root: u64,
     rest: u64,
