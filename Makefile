@@ -26,6 +26,6 @@ dist:
 
 # The C library with its header, pkg-config file and papers: make install [PREFIX=/usr/local] [DESTDIR=..]
 install:
-	@rt staticlib buongilach >/dev/null
+	@tools/build archive
 	@$(MAKE) --no-print-directory -f release/Makefile install \
 	    ARCHIVE=target/staticlib/libbuongilach.a PC_FILE=release/buongilach.pc.in

@@ -20,7 +20,7 @@ class Contracts(unittest.TestCase):
         cls.copy = tempfile.mkdtemp()
         cls.addClassCleanup(shutil.rmtree, cls.copy)
         for part in ("crates", "docs", "tools"):
-            shutil.copytree(os.path.join(ROOT, part), os.path.join(cls.copy, part))
+            shutil.copytree(os.path.join(ROOT, part), os.path.join(cls.copy, part), ignore=shutil.ignore_patterns("out"))
 
     def change(self, path, old, new):
         """In the copy, which the test leaves as it was."""
@@ -68,11 +68,11 @@ class Contracts(unittest.TestCase):
 
     def test_no_theorem(self):
         self.change("crates/bits/proofs/Unique.antt", "pub word_one ", "pub word-two ")
-        self.assert_fault("bits::word has no theorem word-one")
+        self.assert_fault("bits::word has no theorem word_one")
 
     def test_not_among_the_calls(self):
         self.change("crates/demands/specs/Calls.antt", "pub session_open ", "pub session-opens ")
-        self.assert_fault("session::open has no theorem session-open")
+        self.assert_fault("session::open has no theorem session_open")
 
     def programs_of_reader(self):
         """The cell of consist::read's wrong programs."""

@@ -13,7 +13,8 @@ from here import load
 dist = load("dist")
 
 COMMIT = "5" * 40
-CRATES = "# numbers\nbits:\nwhole: bits\nbuongilach: bits whole\nenforce: buongilach io libc # a program\n"
+CRATES = ("# numbers\nbits:\nwhole: bits\nbuongilach: bits whole\nbuongilach_c staticlib: buongilach\n"
+          "enforce: buongilach itoa ryu # a program\n")
 GATE = ("commit %s\ncompared 600 feeds, 9 lines (8 accepted, 1 refused)\nno difference\n"
         "hostile: 12 calls, 0 faults\n40 passed, 0 failed\n" % COMMIT)
 TOOL = "#!/bin/sh\n"
@@ -41,7 +42,7 @@ class Dist(unittest.TestCase):
         self.write("crates/bits/must-fail/a.edit", "")
         self.write("crates/bits/must-fail/b.edit", "")
         self.write("crates/bits/must-fail/notes", "")
-        for name, count in (("bits", 2), ("whole", 3), ("buongilach", 12)):
+        for name, count in (("bits", 2), ("whole", 3), ("buongilach", 12), ("buongilach_c", 12)):
             self.write("target/log/%s.say" % name,
                        "fn one: proved\nlogic=proved functions=%d sum=0a native=nat\n" % count)
         self.write("target/log/enforce.say",
@@ -90,14 +91,14 @@ class Dist(unittest.TestCase):
     def test_list(self):
         made = self.listed(self.release())
         self.assertEqual([(one["crate"], one["functions"], one["axioms"]) for one in made["proved"]],
-                         [("bits", 2, 0), ("whole", 3, 0), ("buongilach", 12, 0), ("enforce", 1, 2)])
-        self.assertEqual(made["functions proved"], 18)
-        self.assertEqual(made["proved"][3]["assumed"],
+                         [("bits", 2, 0), ("whole", 3, 0), ("buongilach", 12, 0), ("buongilach_c", 12, 0), ("enforce", 1, 2)])
+        self.assertEqual(made["functions proved"], 30)
+        self.assertEqual(made["proved"][4]["assumed"],
                          ["libc: libc::read, libc::write (2 of the 50 declared)"])
         self.assertEqual(made["tested"]["must-fail edits"], {"bits": 2})
         self.assertEqual(made["tested"]["gate"]["last line"], "40 passed, 0 failed")
         self.assertEqual(len(made["tested"]["gate"]["runs"]), 2)
-        self.assertEqual(made["third parties"], {"the kit's crates": ["io", "libc"], "others": []})
+        self.assertEqual(made["third parties"], {"the kit's crates": ["itoa", "ryu"], "others": []})
         self.assertEqual((made["commit"], made["kit"], made["draft"]), (COMMIT, "kit-0 logic 0a", False))
 
     def test_what_is_not_proved_is_not_released(self):
@@ -106,9 +107,14 @@ class Dist(unittest.TestCase):
         os.remove(os.path.join(self.root, "target/log/whole.say"))
         self.assert_unfit("whole.say", self.release)
 
-    def test_a_failing_check_makes_no_release(self):
-        self.tool("rt", "[ \"$1\" != check ]\n")
-        self.assert_unfit("rt check fails", self.release)
+    def test_what_an_earlier_run_proved_makes_only_a_draft(self):
+        self.write("target/log/whole.say", "rt: whole is kept: an earlier run proved the same files\n")
+        self.assert_unfit("whole was proved by an earlier run", self.release)
+        self.assertEqual(self.listed(self.release(draft=True))["proved"][1]["functions"], 0)
+
+    def test_no_archive_no_release(self):
+        os.remove(os.path.join(self.root, "target/staticlib/libbuongilach.a"))
+        self.assert_unfit("tools/build archive fails", self.release)
 
     def test_the_gate_must_have_passed_on_this_commit(self):
         for words in (GATE.replace("0 failed", "1 failed"), GATE.replace("commit 5", "commit 6"), ""):

@@ -42,7 +42,7 @@ class Papers(unittest.TestCase):
     def test_refusals(self):
         """The header and the customer's table have every refusal of the definition, under its number."""
         defined = {name: int(number) for name, number in
-                   re.findall(r"^numberOf (\w+) = (\d+)$", text_of("crates/refusal/specs/Number.antt"), re.M)}
+                   re.findall(r"^number_of (\w+) = (\d+)$", text_of("crates/refusal/specs/Number.antt"), re.M)}
         enum = re.search(r"enum buongilach_refusal \{(.*?)\n\}", text_of("include/buongilach.h"), re.S)[1]
         header = {name.replace("_", "").lower(): int(number) for name, number in
                   re.findall(r"BUONGILACH_(\w+) = (\d+)", enum)}

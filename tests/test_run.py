@@ -1,7 +1,6 @@
 """Tests of ./run, and of tools/launch under it, with stand-ins for the kit and the session program."""
 
 import os
-import platform
 import shutil
 import subprocess
 import tempfile
@@ -27,7 +26,7 @@ class Run(unittest.TestCase):
         os.symlink(TOOLS, os.path.join(self.place, "tools"))
         self.write("target/bin/enforce", PROGRAM)
         self.write("kit/bin/rt", "#!/bin/sh\nexit 1\n")
-        self.write("kit/on/%s/toolchain/lib/ld-linux-x86-64.so.2" % platform.machine(), LOADER)
+        self.write("kit/toolchain/lib/ld-linux-x86-64.so.2", LOADER)
 
     def write(self, name, text):
         path = os.path.join(self.place, name)

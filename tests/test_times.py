@@ -1,18 +1,29 @@
 """Tests of the times tool: python3 -m unittest discover -s tests"""
 
+import os
+import pathlib
+import tempfile
 import unittest
 
 from here import load
 
 times = load("times")
 
-LINES = """rt: bits proved (11 s)
-rt: whole proved (4 s)
-rt: must-fail bits/seven_bits: refused, as it must be (first at proofs/word/Proof.antt:9:3; 10 s)
-rt: must-fail bits/half_written: refused, as it must be (12 s)
-rt: must-fail whole/root_one_bit: refused, as it must be (first at proofs/isqrt/Proof.antt:20:1; 5 s)
-rt: must-fail whole/other: NOT REFUSED: the crate is still proved with this edit (4 s)
-rt: ok, 2 crates proved, 3 must-fail edits refused""".splitlines()
+LINES = """rt: whole is kept: an earlier run on this machine proved the same files over the same libraries
+== bits
+fn bits::word: proved
+logic=proved functions=1 sum=0a
+rt: bits proved
+== bits: its tests
+fn bits::tests::one: proved
+rt: bits: its tests are proved
+rt: bits: trying its must-fail edits (3)
+rt: must-fail bits/seven_bits.edit: refused, as it must be: note: src/lib.rt:6:1: it is not proved
+rt: must-fail bits/half_written.edit: refused, as it must be: note: src/lib.rt:6:1: it is not proved
+rt: must-fail bits/gone.edit: BAD EDIT: an 'old:' text is in src/lib.rt 0 times, and not once
+rt: note: bad must-fail edits, as told above: 1. They fail nothing here, and say nothing of a contract: mend or remove them
+rt: ok; handles allowed: none; must-fail edits: 2 refused, 1 bad; done in this run: 1 of the 2 proofs (of crates and of their tests)
+4 passed, 0 failed""".splitlines()
 
 
 class Times(unittest.TestCase):
@@ -23,23 +34,19 @@ class Times(unittest.TestCase):
         for line in LINES:
             self.costs.take(line)
 
-    def test_sums(self):
-        self.assertEqual(self.costs.proofs, {"bits": 11, "whole": 4})
-        self.assertEqual(self.costs.edits, {"bits": [10, 12], "whole": [5]})
-        self.assertEqual((self.costs.proofs_sum(), self.costs.edits_sum()), (15, 27))
+    def test_what_was_said_of_each_crate(self):
+        with tempfile.TemporaryDirectory() as place:
+            self.costs.keep(place)
+            said = {name: pathlib.Path(place, name).read_text(encoding="utf-8") for name in os.listdir(place)}
+        self.assertEqual(said, {"bits.say": "fn bits::word: proved\nlogic=proved functions=1 sum=0a\n",
+                                "whole.say": LINES[0] + "\n"})
 
-    def test_table(self):
-        self.assertEqual(list(self.costs.table()), ["bits         proof  11 s,   2 edits   22 s",
-                                                    "whole        proof   4 s,   1 edits    5 s"])
+    def test_summary(self):
+        self.assertEqual(self.costs.summary(), "rt ci: 150 s by the clock, 2 crates, 2 edits refused, 1 bad; "
+                         "done in this run: 1 of the 2 proofs (of crates and of their tests)")
 
-    def test_clock(self):
-        self.assertEqual((self.costs.began, self.costs.edits_began, self.costs.edits_ended), (0, 20, 90))
-
-    def test_budget(self):
-        self.assertEqual(self.costs.allowed(30), 30)
-        self.costs.proofs["bits"] = 2 * times.PROOFS - 4
-        self.assertEqual(self.costs.allowed(30), 60)
-        self.assertIn("3 edits 27 s of 60 allowed", self.costs.summary(30))
+    def test_a_bad_edit(self):
+        self.assertEqual(self.costs.bad, 1)
 
 
 if __name__ == "__main__":
