@@ -2,16 +2,17 @@
 use mathlib.Core.Path.{◌≡◌, refl, sym, ◌∙◌, ap, ap₂, subst}
 use mathlib.Core.Logic.{∥∥₁_prop, ∥∥₁_elim, ∥∥₁_map}
 use mathlib.Core.List.{List, [], ◌∷◌, ◌++◌, map}
-use mathlib.Core.Option.{none}
-use Prim.Native.Nat.{ℕ, ◌+◌, ◌^◌, ◌<◌}
+use Prim.Native.Nat.{ℕ, ◌^◌, ◌<◌}
 use lib.ListN.{get_or}
-use seplogic.Ra.TreeShare.{full_share}
+use base.Fraction.{full_share}
 use mir.Syntax.{w8, w32}
 use mir.Val.{Val, vint}
 use base.Logic.{ent, sep, emp, via, emp∗, comm∗, mono_r, fst∗}
 use prog.Memory.{Memory}
-use prog.Machine.{done}
-use prog.Routine.{Routine}
+use prog.Machine.{Program, done}
+use prog.Routine.{Routine, Env, step, machine}
+use prog.Wired.{Code, Wired}
+use prog.Linked.{Has, in_program, Has-Wired, machine-Follows}
 use prog.Wp.{run}
 use prog.AdequacyRun.{start_mem}
 use types.Kit.{raw, ◌⊛◌, ◌$◌, ◌∵◌, !, qed, by, move, use1, split, frame}
@@ -48,16 +49,16 @@ use Rattle.demands.specs.Library as library
 use Rattle.demands.specs.Program.{FitsWords}
 use Rattle.demands.specs.Program as program
 use Rattle.runs.specs.Runs.{Buffer, size, passed, with, lie, Answers}
-use Rattle.runs.specs.CodeMeets.{Hold, Gives, front, after, OpenGives, OpenWithGives, SampleGives, CallGives, CodeMeets}
+use Rattle.runs.specs.CodeMeets.{Hold, Gives, front, after, OpenGives, OpenWithGives, SampleGives, CallGives, HasLibrary, HasProgram, CodeMeets}
 use Rattle.runs.proofs.SessionFits.{choice_is, session_is}
 use Rattle.runs.proofs.SessionValue.{number, session_in, session_read, answer_told_lem}
-use Rattle.runs.proofs.LentBytes.{W}
 use Rattle.runs.proofs.Runs.{runs}
 use Rattle.runs.proofs.Loaded.{gives_one, holds_of, nothing, apart, all_fit, fit_both}
 
 -- from the closed model's memory at the start
 module _ (code : Routine) (vs : List Val) (bs after : List Buffer) (us : List Val) (R : RattleType) (r : R.Denot) (answer : Val) (cs : List (List ℕ)) (σ : Memory) where
-  open w₀ use {𝓤, H, 𝓜}
+  open w₀ use {𝓤, 𝓛, 𝓜}
+  open 𝓛 use {H}
 
   gives : Answers w₀ code vs bs us R r after → Tells R (λ x us. Is R r us) (λ _. answer ∷ [])
       → (map size after ≡ map size bs → (σ' : Memory) → ent 𝓤 (sep 𝓤 (𝓜.mem σ') (lie w₀ after (emp 𝓤))) (fact 𝓤 (Hold σ' bs cs)))
@@ -65,9 +66,10 @@ module _ (code : Routine) (vs : List Val) (bs after : List Buffer) (us : List Va
   gives answers tells holds s =
       ∥∥₁_elim (answers σ (emp 𝓤) s) ∥∥₁_prop (λ c.
       ∥∥₁_map (sat_fact 𝓤 H 𝓜 c.2 (lie w₀ after (emp 𝓤)) (Hold c.2 bs cs) (holds c.5 c.2) c.6) (λ h.
-      (c.0, c.2, subst (λ (v : Val). code.step c.0 (vs ++ (map passed bs ++ us)) σ ≡ done (v, c.2)) (ap only (tells r (c.1 ∷ []) c.4)) c.3, h)))
+      (c.0, c.2, subst (λ (v : Val). step code c.0 (vs ++ (map passed bs ++ us)) σ ≡ done (v, c.2)) (ap only (tells r (c.1 ∷ []) c.4)) c.3, h)))
 
-open w₀ use {𝓤, H, 𝓜}
+open w₀ use {𝓤, 𝓛, 𝓜}
+open 𝓛 use {H}
 
 abbrev alone : (P : Pr w₀) → ent 𝓤 P (sep 𝓤 P (emp 𝓤))
 alone P = via 𝓤 (sep 𝓤 (emp 𝓤) P) (emp∗ 𝓤 P) (comm∗ 𝓤 (emp 𝓤) P)
@@ -76,7 +78,7 @@ abbrev lying : Buffer → Pr w₀
 lying b = run 𝓤 H full_share w8 b.block b.offset b.bytes
 
 -- the session's bytes in one block and the consist's in the other: at the start, and once these have been left
-module _ (session consist : List ℕ) (fs : Slice session) (fc : Slice consist) where
+module _ (γ : Env) (has : HasLibrary γ) (session consist : List ℕ) (fs : Slice session) (fc : Slice consist) where
   abbrev z : Buffer
   z = front 0 session
 
@@ -97,22 +99,22 @@ module _ (session consist : List ℕ) (fs : Slice session) (fc : Slice consist) 
       holds_of w₀ σ z left (c ∷ []) (consist ∷ []) (lie w₀ (c ∷ []) (emp 𝓤)) (ap (λ (l : List ℕ). get_or l 0 0) e)
       (holds_of w₀ σ c consist [] [] (emp 𝓤) refl (nothing w₀ σ (emp 𝓤)))
 
-  open_gives : OpenGives session consist (open_bytes consist session FiveSeconds)
+  open_gives : OpenGives γ session consist (open_bytes consist session FiveSeconds)
   open_gives =
       let y : ℕ × List ℕ = open_bytes consist session FiveSeconds in
-      gives buongilach_open.routine [] two (with z y.1 ∷ c ∷ []) [] u8 y.0 (vint w8 y.0) (y.1 ∷ consist ∷ []) (start_mem session consist)
-      (runs.buongilach_opens w₀ z c (fs.1, (fc.1, tt))) (λ _ us h. h.0) (left_there y.1) at_start
+      gives (γ buongilach_open.name) [] two (with z y.1 ∷ c ∷ []) [] u8 y.0 (vint w8 y.0) (y.1 ∷ consist ∷ []) (start_mem session consist)
+      (runs.buongilach_opens w₀ γ has.opens z c (fs.1, (fc.1, tt))) (λ _ us h. h.0) (left_there y.1) at_start
 
-  open_with_gives : (everlasting : ℕ) → everlasting < 2 ^ 32 → OpenWithGives session consist everlasting (open_bytes consist session (choice_of everlasting))
+  open_with_gives : (everlasting : ℕ) → everlasting < 2 ^ 32 → OpenWithGives γ session consist everlasting (open_bytes consist session (choice_of everlasting))
   open_with_gives everlasting fits =
       let y : ℕ × List ℕ = open_bytes consist session (choice_of everlasting) in
-      gives buongilach_open_with.routine [] two (with z y.1 ∷ c ∷ []) (vint w32 everlasting ∷ []) u8 y.0 (vint w8 y.0) (y.1 ∷ consist ∷ [])
+      gives (γ buongilach_open_with.name) [] two (with z y.1 ∷ c ∷ []) (vint w32 everlasting ∷ []) u8 y.0 (vint w8 y.0) (y.1 ∷ consist ∷ [])
       (start_mem session consist)
-      (runs.buongilach_opens_with w₀ z c (fs.1, (fc.1, tt)) everlasting fits) (λ _ us h. h.0) (left_there y.1) at_start
+      (runs.buongilach_opens_with w₀ γ has.opens_with z c (fs.1, (fc.1, tt)) everlasting fits) (λ _ us h. h.0) (left_there y.1) at_start
 
-sample_gives : (session : List ℕ) (l : Lent) → Slice session → Lends (sampling l) → SampleGives session l
+sample_gives : (γ : Env) → HasLibrary γ → (session : List ℕ) (l : Lent) → Slice session → Lends (sampling l) → SampleGives γ session l
     (sample_bytes session l.sample l.profile l.targets l.out)
-sample_gives session l fits f =
+sample_gives γ has session l fits f =
     let z : Buffer = front 0 session in
     let s : Buffer = front 1 l.sample in
     let p : Buffer = after s l.profile in
@@ -121,9 +123,9 @@ sample_gives session l fits f =
     let y : Sampled = sample_bytes session l.sample l.profile l.targets l.out in
     let others : List ℕ = l.sample ++ (l.profile ++ (l.targets ++ l.out)) in
     let σ₀ : Memory = start_mem session others in
-    gives buongilach_sample.routine [] (z ∷ s ∷ p ∷ t ∷ d ∷ []) (with z y.1 ∷ s ∷ p ∷ t ∷ with d y.2 ∷ []) [] u8 y.0 (vint w8 y.0)
+    gives (γ buongilach_sample.name) [] (z ∷ s ∷ p ∷ t ∷ d ∷ []) (with z y.1 ∷ s ∷ p ∷ t ∷ with d y.2 ∷ []) [] u8 y.0 (vint w8 y.0)
     (y.1 ∷ l.sample ∷ l.profile ∷ l.targets ∷ y.2 ∷ []) σ₀
-    (runs.buongilach_samples w₀ z s p t d (fits.1, (f.0.1, (f.1.1, (f.2.1, (f.3.1, tt)))))) (λ _ us h. h.0)
+    (runs.buongilach_samples w₀ γ has.samples z s p t d (fits.1, (f.0.1, (f.1.1, (f.2.1, (f.3.1, tt)))))) (λ _ us h. h.0)
     (λ e σ. holds_of w₀ σ z y.1 (s ∷ p ∷ t ∷ d ∷ []) (l.sample ∷ l.profile ∷ l.targets ∷ y.2 ∷ []) (lie w₀ (s ∷ p ∷ t ∷ with d y.2 ∷ []) (emp 𝓤))
     (ap (λ (k : List ℕ). get_or k 0 0) e)
     (holds_of w₀ σ s l.sample (p ∷ t ∷ d ∷ []) (l.profile ∷ l.targets ∷ y.2 ∷ []) (lie w₀ (p ∷ t ∷ with d y.2 ∷ []) (emp 𝓤)) refl
@@ -152,40 +154,40 @@ open_only session consist code us y z g h =
     ap opened_in (gives_one code (start_mem session consist) []
     (front 0 session ∷ front 1 consist ∷ []) us (vint w8 y.0) (vint w8 z.0) (y.1 ∷ consist ∷ []) (z.1 ∷ consist ∷ []) g h)
 
-sample_only : (session : List ℕ) (l : Lent) (y z : Sampled) → SampleGives session l y → SampleGives session l z → y ≡ z
+sample_only : (γ : Env) (session : List ℕ) (l : Lent) (y z : Sampled) → SampleGives γ session l y → SampleGives γ session l z → y ≡ z
 unfolding number
-sample_only session l y z g h =
+sample_only γ session l y z g h =
     let s : Buffer = front 1 l.sample in
     let p : Buffer = after s l.profile in
     let t : Buffer = after p l.targets in
     let left : Sampled → List (List ℕ) = λ k. k.1 ∷ l.sample ∷ l.profile ∷ l.targets ∷ k.2 ∷ [] in
     ap (λ (k : Val × List (List ℕ)). (number k.0, get_or k.1 0 [], get_or k.1 4 []))
-    (gives_one buongilach_sample.routine (start_mem session (l.sample ++ (l.profile ++ (l.targets ++ l.out)))) []
+    (gives_one (γ buongilach_sample.name) (start_mem session (l.sample ++ (l.profile ++ (l.targets ++ l.out)))) []
     (front 0 session ∷ s ∷ p ∷ t ∷ after t l.out ∷ []) [] (vint w8 y.0) (vint w8 z.0) (left y) (left z) g h)
 
 -- ---- the Rattle program's calls
-none_gives : Gives session_none.routine (start_mem [] []) [] [] [] (session_value.lowered none_open) []
-none_gives = gives session_none.routine [] [] [] [] session_type.the_row none_open (session_value.lowered none_open) [] (start_mem [] []) (runs.none w₀)
+none_gives : (γ : Env) → HasProgram γ → Gives (γ session_none.name) (start_mem [] []) [] [] [] (session_value.lowered none_open) []
+none_gives γ has = gives (γ session_none.name) [] [] [] [] session_type.the_row none_open (session_value.lowered none_open) [] (start_mem [] []) (runs.none w₀ γ has.none)
     (λ _. (session_value.lowers).val_is none_open)
     (λ e σ. nothing w₀ σ (emp 𝓤))
     (sat_weaken 𝓤 H 𝓜 (start_mem [] []) (fst∗ 𝓤 (emp 𝓤) (emp 𝓤)) (start_Satisfies 𝓤 H 𝓜 [] [] tt tt))
 
-program_open_gives : (x : Session) (s : List ℕ) (choice : Choice) → FitsWords x → Slice s
-    → Gives session_open.routine (start_mem s []) (session_value.lowered x ∷ []) (front 0 s ∷ []) (choice_value.lowered choice ∷ [])
+program_open_gives : (γ : Env) → HasProgram γ → (x : Session) (s : List ℕ) (choice : Choice) → FitsWords x → Slice s
+    → Gives (γ session_open.name) (start_mem s []) (session_value.lowered x ∷ []) (front 0 s ∷ []) (choice_value.lowered choice ∷ [])
     (answer_value.lowered (open_of x s choice)) (s ∷ [])
-program_open_gives x s choice fits f =
+program_open_gives γ has x s choice fits f =
     let b : Buffer = front 0 s in
     let y : Answer = open_of x s choice in
-    gives session_open.routine (session_value.lowered x ∷ []) (b ∷ []) (b ∷ []) (choice_value.lowered choice ∷ []) answer_type.the_row y
+    gives (γ session_open.name) (session_value.lowered x ∷ []) (b ∷ []) (b ∷ []) (choice_value.lowered choice ∷ []) answer_type.the_row y
     (answer_value.lowered y) (s ∷ []) (start_mem s [])
-    (runs.opens w₀ x (session_value.lowered x) (session_is x fits) b (f.1, tt) choice (choice_value.lowered choice) (choice_is choice))
+    (runs.opens w₀ γ has.opens x (session_value.lowered x) (session_is x fits) b (f.1, tt) choice (choice_value.lowered choice) (choice_is choice))
     (λ _. (answer_value.lowers).val_is y)
     (λ e σ. holds_of w₀ σ b s [] [] (emp 𝓤) refl (nothing w₀ σ (emp 𝓤))) (start_Satisfies 𝓤 H 𝓜 s [] (all_fit s f.0) tt)
 
-call_gives : (x : Session) (l : Lent) → FitsWords x → Lends (sampling l)
+call_gives : (γ : Env) → HasProgram γ → (x : Session) (l : Lent) → FitsWords x → Lends (sampling l)
     → let y = sample_call x l.sample l.profile l.targets l.out in
-    CallGives x l y.0 y.1
-call_gives x l fits f =
+    CallGives γ x l y.0 y.1
+call_gives γ has x l fits f =
     let s : Buffer = front 1 l.sample in
     let p : Buffer = after s l.profile in
     let t : Buffer = after p l.targets in
@@ -193,47 +195,53 @@ call_gives x l fits f =
     let y : Answer × List ℕ = sample_call x l.sample l.profile l.targets l.out in
     let others : List ℕ = l.sample ++ (l.profile ++ l.targets) in
     let σ₀ : Memory = start_mem l.out others in
-    gives session_sample.routine (session_value.lowered x ∷ []) (s ∷ p ∷ t ∷ o ∷ []) (s ∷ p ∷ t ∷ with o y.1 ∷ []) [] answer_type.the_row y.0
+    gives (γ session_sample.name) (session_value.lowered x ∷ []) (s ∷ p ∷ t ∷ o ∷ []) (s ∷ p ∷ t ∷ with o y.1 ∷ []) [] answer_type.the_row y.0
     (answer_value.lowered y.0)
     (l.sample ∷ l.profile ∷ l.targets ∷ y.1 ∷ []) σ₀
-    (runs.samples w₀ x (session_value.lowered x) (session_is x fits) s p t o (f.0.1, (f.1.1, (f.2.1, (f.3.1, tt)))))
+    (runs.samples w₀ γ has.samples x (session_value.lowered x) (session_is x fits) s p t o (f.0.1, (f.1.1, (f.2.1, (f.3.1, tt)))))
     (λ _. (answer_value.lowers).val_is y.0)
     (λ e σ. holds_of w₀ σ s l.sample (p ∷ t ∷ o ∷ []) (l.profile ∷ l.targets ∷ y.1 ∷ []) (lie w₀ (p ∷ t ∷ with o y.1 ∷ []) (emp 𝓤)) refl
     (holds_of w₀ σ p l.profile (t ∷ o ∷ []) (l.targets ∷ y.1 ∷ []) (lie w₀ (t ∷ with o y.1 ∷ []) (emp 𝓤)) refl
     (holds_of w₀ σ t l.targets (o ∷ []) (y.1 ∷ []) (lie w₀ (with o y.1 ∷ []) (emp 𝓤)) refl
     (holds_of w₀ σ o y.1 [] [] (emp 𝓤) (ap (λ (k : List ℕ). get_or k 3 0) e) (nothing w₀ σ (emp 𝓤))))))
     (sat_weaken 𝓤 H 𝓜 σ₀
-    (qed (W w₀) (raw (lying o) ∷ raw (lying (front 1 others)) ∷ []) ∵ move ! (1 ∷ []) $
-    use1 (W w₀) (raw (lying s) ⊛ raw (lying (after s (l.profile ++ l.targets)))) (apart w₀ σ₀ l.sample (l.profile ++ l.targets) 1 0) $ split ! $ frame ! $
-    use1 (W w₀) (raw (lying p) ⊛ raw (lying t)) (apart w₀ σ₀ l.profile l.targets 1 p.offset) $ split ! $ frame ! $ frame ! $ by ! (alone (lying o)))
+    (qed 𝓛 (raw (lying o) ∷ raw (lying (front 1 others)) ∷ []) ∵ move ! (1 ∷ []) $
+    use1 𝓛 (raw (lying s) ⊛ raw (lying (after s (l.profile ++ l.targets)))) (apart w₀ σ₀ l.sample (l.profile ++ l.targets) 1 0) $ split ! $ frame ! $
+    use1 𝓛 (raw (lying p) ⊛ raw (lying t)) (apart w₀ σ₀ l.profile l.targets 1 p.offset) $ split ! $ frame ! $ frame ! $ by ! (alone (lying o)))
     (start_Satisfies 𝓤 H 𝓜 l.out others (all_fit l.out f.3.0)
     (fit_both l.sample _ (all_fit l.sample f.0.0) (fit_both l.profile _ (all_fit l.profile f.1.0) (all_fit l.targets f.2.0)))))
 
+-- ---- the machine on a program that has the code
+machine_has : (p : Program) (code : Code) → Has (in_program p) code → Wired (machine p) code
+machine_has p = Has-Wired (in_program p) (machine p) (machine-Follows p)
+
 pub code_meets : CodeMeets
 code_meets = record {
-  is_library = λ z. record { opens = open_gives; opens_with = open_with_gives; samples = sample_gives };
-  library_meets = λ m unopened is. record {
+  library_linked = λ p o w s. record { opens = machine_has p buongilach_open.code o; opens_with = machine_has p buongilach_open_with.code w; samples = machine_has p buongilach_sample.code s };
+  program_linked = λ p n o s. record { none = machine_has p session_none.code n; opens = machine_has p session_open.code o; samples = machine_has p session_sample.code s };
+  is_library = λ γ has z. record { opens = open_gives γ has; opens_with = open_with_gives γ has; samples = sample_gives γ has };
+  library_meets = λ γ has m unopened is. record {
     none = unopened;
     opens = λ κs a x fs fc e.
         ap (λ (u : List ℕ). ((m.opens a.0.now a.1.0.now FiveSeconds).0, u)) e
-        ∙ open_only a.0.now a.1.0.now buongilach_open.routine [] _ _ (is.opens _ _ fs fc) (open_gives a.0.now a.1.0.now fs fc);
+        ∙ open_only a.0.now a.1.0.now (γ buongilach_open.name) [] _ _ (is.opens _ _ fs fc) (open_gives γ has a.0.now a.1.0.now fs fc);
     opens_with = λ κs a x fs fc fits e.
         let n : ℕ = a.1.1.0 in
         ap (λ (u : List ℕ). ((m.opens a.0.now a.1.0.now (choice_of n)).0, u)) e
-        ∙ open_only a.0.now a.1.0.now buongilach_open_with.routine (vint w32 n ∷ []) _ _ (is.opens_with _ _ fs fc n fits)
-        (open_with_gives a.0.now a.1.0.now fs fc n fits);
+        ∙ open_only a.0.now a.1.0.now (γ buongilach_open_with.name) (vint w32 n ∷ []) _ _ (is.opens_with _ _ fs fc n fits)
+        (open_with_gives γ has a.0.now a.1.0.now fs fc n fits);
     samples = λ κs a x fs f d e.
         let l = library.lent_to κs a in
         let r = m.samples a.0.now l in
-        ap₂ (λ (u v : List ℕ). (r.told, u, v)) d e ∙ sample_only a.0.now l (r.told, r.state, r.out) _ (is.samples _ _ fs f)
-        (sample_gives a.0.now l fs f);
+        ap₂ (λ (u v : List ℕ). (r.told, u, v)) d e ∙ sample_only γ a.0.now l (r.told, r.state, r.out) _ (is.samples _ _ fs f)
+        (sample_gives γ has a.0.now l fs f);
   };
-  is_program = record { none = none_gives; opens = program_open_gives; samples = call_gives };
-  program_meets = λ m is. record {
+  is_program = λ γ has. record { none = none_gives γ has; opens = program_open_gives γ has; samples = call_gives γ has };
+  program_meets = λ γ has m is. record {
     none = λ κs a x.
         sym (session_read m.none) ∙ ap (λ (k : Val × List (List ℕ)). session_in k.0)
-        (gives_one session_none.routine (start_mem [] []) [] [] [] (session_value.lowered m.none) (session_value.lowered none_open) [] []
-        is.none none_gives) ∙ session_read none_open;
+        (gives_one (γ session_none.name) (start_mem [] []) [] [] [] (session_value.lowered m.none) (session_value.lowered none_open) [] []
+        is.none (none_gives γ has)) ∙ session_read none_open;
     opens = λ κs a x fits f.
         let z = a.0 in
         let s = a.1.0.now in
@@ -242,9 +250,9 @@ code_meets = record {
         let b : Answer = record { session = r.1; verdict = r.0 } in
         answer_told_lem b (open_of z s choice)
         (ap (λ (k : Val × List (List ℕ)). k.0)
-        (gives_one session_open.routine (start_mem s []) (session_value.lowered z ∷ []) (front 0 s ∷ []) (choice_value.lowered choice ∷ [])
+        (gives_one (γ session_open.name) (start_mem s []) (session_value.lowered z ∷ []) (front 0 s ∷ []) (choice_value.lowered choice ∷ [])
         (answer_value.lowered b) (answer_value.lowered (open_of z s choice)) (s ∷ []) (s ∷ []) (is.opens z s choice fits f)
-        (program_open_gives z s choice fits f)));
+        (program_open_gives γ has z s choice fits f)));
     samples = λ κs a x fits f e.
         let z = a.0 in
         let l = program.lent_to κs a in
@@ -254,9 +262,9 @@ code_meets = record {
         let s : Buffer = front 1 l.sample in
         let p : Buffer = after s l.profile in
         let left : List ℕ → List (List ℕ) = λ out. l.sample ∷ l.profile ∷ l.targets ∷ out ∷ [] in
-        let one = gives_one session_sample.routine (start_mem l.out (l.sample ++ (l.profile ++ l.targets))) (session_value.lowered z ∷ [])
+        let one = gives_one (γ session_sample.name) (start_mem l.out (l.sample ++ (l.profile ++ l.targets))) (session_value.lowered z ∷ [])
         (s ∷ p ∷ after p l.targets ∷ front 0 l.out ∷ []) []
-        (answer_value.lowered b) (answer_value.lowered y.0) (left r.out) (left y.1) (is.samples z l fits f) (call_gives z l fits f) in
+        (answer_value.lowered b) (answer_value.lowered y.0) (left r.out) (left y.1) (is.samples z l fits f) (call_gives γ has z l fits f) in
         ap₂ (λ (k : ℕ × Told) (out : List ℕ). (k, out)) (answer_told_lem b y.0 (ap (λ (k : Val × List (List ℕ)). k.0) one))
         (e ∙ ap (λ (k : Val × List (List ℕ)). get_or k.1 3 []) one);
   };

@@ -5,18 +5,18 @@ use Prim.Native.Nat.{ℕ, zero, suc, ◌+◌, ◌<◌, ◌^◌}
 use native.Mathlib.Nat.{lt_trans, mul-one}
 use lib.Dec.{lit<}
 use lib.ListN.{length}
-use seplogic.Ra.TreeShare.{full_share}
+use base.Fraction.{full_share}
 use mir.Syntax.{w8, named}
-use mir.Val.{Val, bytes}
+use mir.Val.{Val}
 use base.Logic.{ent, sep, emp, ex, id⊢, via, mono∗, mono_l, fst∗, snd∗, emp∗}
-use base.Fml.{Lft, GName, Fml, fsep, ftrue, fdead, flent, feq}
+use base.Fml.{Lft, GName, Fml, fsep, ftrue, fdead, flent, feq, fbor}
 use prog.Wp.{run}
-use ghost.Atoms.{Atoms, meaning}
-use types.Logic.{Logic}
-use types.Kit.{‵, raw, ◌⊛◌, some, later, ◌$◌, ◌∵◌, !, qed, by, move, keep, use0, use1, use3, split, join, pick, fsplit, fjoin, feq_l, feq_i, frame, await, updating, now as at_once, show, done}
+use types.Logic.{sem}
+use types.Kit.{‵, raw, ◌⊛◌, some, later, ◌$◌, ◌∵◌, !, qed, by, move, keep, use0, use1, use3, split, join, pick, fsplit, fjoin, feq_l, frame, await, updating, now as at_once, show, done}
 use types.Tokens.{lent_back}
-use types.SemTy.{cells, Arr}
-use types.Share.{parts, arr_parts}
+use types.SemTy.{cells, Arr, Body}
+use types.Hole.{Holey}
+use types.Share.{parts}
 use contract.Monad.{fact, fact_i}
 use contract.Lifetimes.{Lfts, Within, lft_at}
 use borrow.Fn.World.{World, Pr}
@@ -26,21 +26,17 @@ use denote.Signature.{Slot, types_at}
 use denote.Memory.{mem, shares}
 use denote.Plain.{uint_in, uint_out}
 use denote.Builtin.{u8}
-use denote.Ref.{MutBor}
-use denote.Slice.{MutSlice, ShrSlice, Room, finally}
-use denote.Lend.{Held, lends_slice, slice_back, lends_shr_slice}
+use denote.Copied.{each_lends, uint_Copied}
+use denote.Shadow.{pure_i}
+use denote.Slice.{MutSlice, ShrSlice, Room, finally, elements_shared, shr_slice_at}
+use denote.Lend.{Held, lends_slice, slice_back}
 use denote.Steps.{heard}
 use denote.Triple.End.{Kepts, Fins, lasts_of}
 use Rattle.runs.specs.Runs.{Buffer, passed, with}
 
 module _ (w : World) where
-  open w use {𝓤, H, 𝓜, 𝓖, 𝓡}
-
-  abbrev A : Atoms 𝓤
-  A = 𝓖.A
-
-  abbrev pub W : Logic 𝓤
-  W = 𝓖
+  open w use {𝓤, 𝓛}
+  open 𝓛 use {H, A}
 
   abbrev ◌∗◌ : Pr w → Pr w → Pr w
   P ∗ Q = sep 𝓤 P Q
@@ -49,7 +45,7 @@ module _ (w : World) where
   P ⊢ Q = ent 𝓤 P Q
 
   abbrev ⟦◌⟧ : Fml → Pr w
-  ⟦ P ⟧ = meaning 𝓤 H A P
+  ⟦ P ⟧ = sem 𝓛 P
 
   infixr 35 ◌∗◌
   infix 26 ◌⊢◌
@@ -64,19 +60,19 @@ module _ (w : World) where
 
   pub to_cells : (xs : List ℕ) (b o : ℕ) → lying xs b o ⊢ ⟦ cells (mem u8) xs b o ⟧
   to_cells [] b o = id⊢ 𝓤 (emp 𝓤)
-  to_cells (x ∷ xs) b o = mono∗ 𝓤 (uint_in 𝓤 H A W full_share w8 x b o) (to_cells xs b (o + 1))
+  to_cells (x ∷ xs) b o = mono∗ 𝓤 (uint_in 𝓛 full_share w8 x b o) (to_cells xs b (o + 1))
 
   pub of_cells : (xs : List ℕ) (b o : ℕ) → ⟦ cells (mem u8) xs b o ⟧ ⊢ lying xs b o
   of_cells [] b o = id⊢ 𝓤 (emp 𝓤)
-  of_cells (x ∷ xs) b o = mono∗ 𝓤 (uint_out 𝓤 H A W full_share w8 x b o) (of_cells xs b (o + 1))
+  of_cells (x ∷ xs) b o = mono∗ 𝓤 (uint_out 𝓛 full_share w8 x b o) (of_cells xs b (o + 1))
 
   pub to_parts : (xs : List ℕ) (b o : ℕ) → lying xs b o ⊢ ⟦ parts (mem u8) (shares u8) full_share xs b o ⟧
   to_parts [] b o = id⊢ 𝓤 (emp 𝓤)
-  to_parts (x ∷ xs) b o = mono∗ 𝓤 (uint_in 𝓤 H A W full_share w8 x b o) (to_parts xs b (o + 1))
+  to_parts (x ∷ xs) b o = mono∗ 𝓤 (uint_in 𝓛 full_share w8 x b o) (to_parts xs b (o + 1))
 
   pub of_parts : (xs : List ℕ) (b o : ℕ) → ⟦ parts (mem u8) (shares u8) full_share xs b o ⟧ ⊢ lying xs b o
   of_parts [] b o = id⊢ 𝓤 (emp 𝓤)
-  of_parts (x ∷ xs) b o = mono∗ 𝓤 (uint_out 𝓤 H A W full_share w8 x b o) (of_parts xs b (o + 1))
+  of_parts (x ∷ xs) b o = mono∗ 𝓤 (uint_out 𝓛 full_share w8 x b o) (of_parts xs b (o + 1))
 
   -- ---- the lifetimes of a call are over
   abbrev pub deads : (n : ℕ) → Lfts n → Pr w
@@ -86,8 +82,8 @@ module _ (w : World) where
   deads_twice : (n : ℕ) (κs : Lfts n) → deads n κs ⊢ deads n κs ∗ deads n κs
   deads_twice zero κs = emp∗ 𝓤 (emp 𝓤)
   deads_twice (suc n) κs =
-      qed W (‵ (fdead κs.0) ∷ raw (deads n κs.1) ∷ []) ∵ use1 W (‵ (fdead κs.0) ⊛ ‵ (fdead κs.0)) (W.lfts.dead_dup κs.0) $ split ! $
-      move ! (2 ∷ []) $ use1 W (raw (deads n κs.1) ⊛ raw (deads n κs.1)) (deads_twice n κs.1) $ split ! $
+      qed 𝓛 (‵ (fdead κs.0) ∷ raw (deads n κs.1) ∷ []) ∵ use1 𝓛 (‵ (fdead κs.0) ⊛ ‵ (fdead κs.0)) (𝓛.lfts.dead_dup κs.0) $ split ! $
+      move ! (2 ∷ []) $ use1 𝓛 (raw (deads n κs.1) ⊛ raw (deads n κs.1)) (deads_twice n κs.1) $ split ! $
       move ! (2 ∷ 0 ∷ []) $ join ! $ frame ! $ move ! (1 ∷ 0 ∷ []) $ done !
 
   pub over : (n j : ℕ) (ok : Within n j) (κs : Lfts n) → deads n κs ⊢ A.dead (lft_at n j ok κs)
@@ -119,10 +115,10 @@ module _ (w : World) where
       aside = λ _. emp 𝓤;
       after = λ _ _. emp 𝓤;
       known = λ _ _. Unit {0};
-      lends = qed W [] ∵ updating ! $ at_once ! $ show ! (λ (_ : Unit {0}). ⟦ R.own_val x vs ⟧ ∗ emp 𝓤) tt $ use0 W (‵ (R.own_val x vs)) owned $ use0 W (‵ ftrue)
+      lends = qed 𝓛 [] ∵ updating ! $ at_once ! $ show ! (λ (_ : Unit {0}). ⟦ R.own_val x vs ⟧ ∗ emp 𝓤) tt $ use0 𝓛 (‵ (R.own_val x vs)) owned $ use0 𝓛 (‵ ftrue)
           (id⊢ 𝓤 (emp 𝓤)) $
           move ! (1 ∷ 0 ∷ []) $ done !;
-      back = λ _ l. qed W (raw (deads n κs) ∷ ‵ (left (R.exit yes) x l) ∷ ‵ ftrue ∷ []) ∵ updating ! $ at_once ! $ keep ! (2 ∷ []) $ by !
+      back = λ _ l. qed 𝓛 (raw (deads n κs) ∷ ‵ (left (R.exit yes) x l) ∷ ‵ ftrue ∷ []) ∵ updating ! $ at_once ! $ keep ! (2 ∷ []) $ by !
           (noted (Unit {0}) (emp 𝓤) tt);
     }
 
@@ -136,46 +132,42 @@ module _ (w : World) where
       pub room : Room u8 size
       room = (lt_trans short (lit< tt), subst (λ (k : ℕ). k < 2 ^ 63) (sym (mul-one size)) short)
 
-      abbrev slice : GName → MutBor (List ℕ)
-      slice γ = record { ref_ptr = (b.block, b.offset); ghost_name = γ; now = b.bytes }
-
       abbrev part : Fml
-      part = (arr_parts (shares u8) size).part full_share b.bytes b.block b.offset
+      part = parts (mem u8) (shares u8) full_share b.bytes b.block b.offset
 
       unfoldable pub shared : Passing (ShrSlice (named j) κ u8) yes
       shared = record {
-        Name = GName;
+        Name = Unit {0};
         before = lies b;
-        value = slice;
+        value = λ _. record { ref_ptr = (b.block, b.offset); now = b.bytes };
         vals = passed b ∷ [];
-        aside = λ γ. A.lent κ part;
-        after = λ γ l. lies b;
-        known = λ γ l. Unit {0};
-        lends = via 𝓤 ⟦ part ⟧
-            (qed W (raw (lies b) ∷ []) ∵ use1 W (‵ (parts (mem u8) (shares u8) full_share b.bytes b.block b.offset))
-            (to_parts b.bytes b.block b.offset) $
-            feq_i ! ℕ size size refl $ done !)
-            (lends_shr_slice 𝓤 H A W u8 (named j) κ full_share b.bytes b.block b.offset room);
-        back = λ γ l. qed W (raw (deads n κs) ∷ ‵ ftrue ∷ ‵ (flent κ part) ∷ []) ∵ updating ! $ use1 W (‵ (fdead κ)) (over n j ok κs) $ move ! (0 ∷ 2 ∷ []) $
-            lent_back ! tt $
-            fsplit ! $ at_once ! $ keep ! (1 ∷ []) $ by ! (via 𝓤 (lies b) (of_parts b.bytes b.block b.offset) (noted (Unit {0}) (lies b) tt));
+        aside = λ _. A.lent κ part;
+        after = λ _ l. lies b;
+        known = λ _ l. Unit {0};
+        lends = qed 𝓛 (raw (lies b) ∷ []) ∵ updating ! $ use1 𝓛 (‵ part) (to_parts b.bytes b.block b.offset) $
+            use1 𝓛 (later (‵ (elements_shared u8 b.bytes b.block b.offset κ) ⊛ ‵ (flent κ part)))
+            (each_lends 𝓛 u8 (uint_Copied 𝓛 w8) full_share b.bytes b.block b.offset κ) $ await ! tt $ split ! $ at_once ! $
+            show ! (λ (_ : Unit {0}). ⟦ (ShrSlice (named j) κ u8).own_val (record { ref_ptr = (b.block, b.offset); now = b.bytes }) (passed b ∷ []) ⟧ ∗ A.lent κ part) tt $
+            pure_i ! (shr_slice_at u8 (record { ref_ptr = (b.block, b.offset); now = b.bytes }) (passed b ∷ [])) (tt, (tt, tt)) (refl, room) $ fjoin ! $ done !;
+        back = λ _ l. qed 𝓛 (raw (deads n κs) ∷ ‵ ftrue ∷ ‵ (flent κ part) ∷ []) ∵ updating ! $ use1 𝓛 (‵ (fdead κ)) (over n j ok κs) $ move ! (0 ∷ 2 ∷ []) $
+            lent_back ! tt $ at_once ! $ keep ! (0 ∷ []) $ by ! (via 𝓤 (lies b) (of_parts b.bytes b.block b.offset) (noted (Unit {0}) (lies b) tt));
       }
 
       unfoldable pub changed : Passing (MutSlice (named j) κ u8) yes
       changed = record {
         Name = GName;
         before = lies b;
-        value = slice;
+        value = λ γ. record { ref_ptr = (b.block, b.offset); ghost_name = γ; now = b.bytes };
         vals = passed b ∷ [];
         aside = λ γ. A.lent κ (Held u8 size b.block b.offset γ);
         after = λ γ l. lies (with b l);
         known = λ γ l. length l ≡ size;
         lends = via 𝓤 ⟦ cells (mem u8) b.bytes b.block b.offset ⟧ (to_cells b.bytes b.block b.offset)
-            (lends_slice 𝓤 H A W u8 (named j) κ b.bytes b.block b.offset room);
-        back = λ γ l. qed W (raw (deads n κs) ∷ ‵ (fsep (finally u8 γ l) (feq ℕ (length l) size)) ∷ ‵
+            (lends_slice 𝓛 u8 (named j) κ b.bytes b.block b.offset room);
+        back = λ γ l. qed 𝓛 (raw (deads n κs) ∷ ‵ (fsep (fsep (finally u8 γ l) (feq ℕ (length l) size)) (fbor κ (Body (Arr (Holey (mem u8)) size) b.block b.offset γ))) ∷ ‵
             (flent κ (Held u8 size b.block b.offset γ)) ∷ []) ∵ updating ! $
-            use1 W (‵ (fdead κ)) (over n j ok κs) $ move ! (1 ∷ []) $ fsplit ! $ move ! (2 ∷ 3 ∷ 0 ∷ []) $
-            use3 W (later (‵ ((Arr (mem u8) size).own_at l b.block b.offset))) (slice_back 𝓤 H A W u8 κ γ l size b.block b.offset) $ await ! tt $
+            use1 𝓛 (‵ (fdead κ)) (over n j ok κs) $ move ! (1 ∷ []) $ fsplit ! $ fsplit ! $ move ! (3 ∷ 4 ∷ 0 ∷ []) $
+            use3 𝓛 (later (‵ ((Arr (mem u8) size).own_at l b.block b.offset))) (slice_back 𝓛 u8 κ γ l size b.block b.offset) $ await ! tt $
             fsplit ! $ at_once ! $
             keep ! (0 ∷ 1 ∷ []) $ feq_l ! (λ e. by ! (via 𝓤 (lies (with b l)) (of_cells l b.block b.offset) (noted (length l ≡ size) (lies (with b l)) e)));
       }
@@ -215,12 +207,12 @@ module _ (w : World) where
 
     pub lend : (ss : List (Slot n)) (ks : Kepts ss) (ps : Passings ss ks) (F : Pr w)
         → befores ss ks ps F ⊢ H.⇛ (ex 𝓤 (λ (gs : Names ss ks ps). ⟦ owns (types_at ss κs) (values ss ks ps gs) (vals_of ss ks ps) ⟧ ∗ asides ss ks ps gs F))
-    lend [] ks ps F = qed W (raw F ∷ []) ∵ updating ! $ at_once ! $ show ! (λ (gs : Unit {0}). emp 𝓤 ∗ F) tt $ by ! (emp∗ 𝓤 F)
+    lend [] ks ps F = qed 𝓛 (raw F ∷ []) ∵ updating ! $ at_once ! $ show ! (λ (gs : Unit {0}). emp 𝓤 ∗ F) tt $ by ! (emp∗ 𝓤 F)
     lend (s ∷ ss) ks ps F =
-        qed W (raw ps.0.before ∷ raw (befores ss ks.1 ps.1 F) ∷ []) ∵ updating ! $
-        use1 W (later (some (λ (g : ps.0.Name). ‵ ((s.row κs).own_val (ps.0.value g) ps.0.vals) ⊛ raw (ps.0.aside g)))) ps.0.lends $ await ! tt $
+        qed 𝓛 (raw ps.0.before ∷ raw (befores ss ks.1 ps.1 F) ∷ []) ∵ updating ! $
+        use1 𝓛 (later (some (λ (g : ps.0.Name). ‵ ((s.row κs).own_val (ps.0.value g) ps.0.vals) ⊛ raw (ps.0.aside g)))) ps.0.lends $ await ! tt $
         pick ! (λ g. split ! $
-        move ! (2 ∷ []) $ use1 W
+        move ! (2 ∷ []) $ use1 𝓛
         (later (some (λ (gs : Names ss ks.1 ps.1). ‵ (owns (types_at ss κs) (values ss ks.1 ps.1 gs) (vals_of ss ks.1 ps.1)) ⊛ raw
         (asides ss ks.1 ps.1 gs F))))
         (lend ss ks.1 ps.1 F) $ await ! tt $ pick ! (λ gs. split ! $ at_once ! $
@@ -230,17 +222,17 @@ module _ (w : World) where
 
     pub takes : (ss : List (Slot n)) (ks : Kepts ss) (ps : Passings ss ks) (gs : Names ss ks ps) (ls : Fins κs ss ks (values ss ks ps gs)) (F : Pr w)
         → deads n κs ∗ (⟦ lasts_of κs ss ks (values ss ks ps gs) ls ⟧ ∗ asides ss ks ps gs F) ⊢ H.⇛ (fact 𝓤 (Knowns ss ks ps gs ls) ∗ afters ss ks ps gs ls F)
-    takes [] ks ps gs ls F = qed W (raw (deads n κs) ∷ ‵ ftrue ∷ raw F ∷ []) ∵ updating ! $ at_once ! $ keep ! (2 ∷ []) $ by ! (noted (Unit {0}) F tt)
+    takes [] ks ps gs ls F = qed 𝓛 (raw (deads n κs) ∷ ‵ ftrue ∷ raw F ∷ []) ∵ updating ! $ at_once ! $ keep ! (2 ∷ []) $ by ! (noted (Unit {0}) F tt)
     takes (s ∷ ss) ks ps gs ls F =
         let first : Pr w = ps.0.after gs.0 ls.0 in
         let others : Pr w = afters ss ks.1 ps.1 gs.1 ls.1 F in
         let knows : Type 0 = Knowns ss ks.1 ps.1 gs.1 ls.1 in
-        qed W (raw (deads n κs) ∷ ‵ (lasts_of κs (s ∷ ss) ks (values (s ∷ ss) ks ps gs) ls) ∷ raw (ps.0.aside gs.0) ∷ raw
+        qed 𝓛 (raw (deads n κs) ∷ ‵ (lasts_of κs (s ∷ ss) ks (values (s ∷ ss) ks ps gs) ls) ∷ raw (ps.0.aside gs.0) ∷ raw
         (asides ss ks.1 ps.1 gs.1 F) ∷ []) ∵ updating ! $
-        use1 W (raw (deads n κs) ⊛ raw (deads n κs)) (deads_twice n κs) $ split ! $ move ! (2 ∷ []) $ fsplit ! $
+        use1 𝓛 (raw (deads n κs) ⊛ raw (deads n κs)) (deads_twice n κs) $ split ! $ move ! (2 ∷ []) $ fsplit ! $
         -- [the first's last value; the others'; the lifetimes are over, twice; what is aside]
-        move ! (2 ∷ 0 ∷ 4 ∷ []) $ use3 W (later (raw (fact 𝓤 (ps.0.known gs.0 ls.0)) ⊛ raw first)) (ps.0.back gs.0 ls.0) $ await ! tt $ split ! $
+        move ! (2 ∷ 0 ∷ 4 ∷ []) $ use3 𝓛 (later (raw (fact 𝓤 (ps.0.known gs.0 ls.0)) ⊛ raw first)) (ps.0.back gs.0 ls.0) $ await ! tt $ split ! $
         heard ! (ps.0.known gs.0 ls.0) (λ p. move ! (2 ∷ 1 ∷ 3 ∷ []) $
-        use3 W (later (raw (fact 𝓤 knows) ⊛ raw others)) (takes ss ks.1 ps.1 gs.1 ls.1 F) $ await ! tt $ split ! $ heard ! knows
+        use3 𝓛 (later (raw (fact 𝓤 knows) ⊛ raw others)) (takes ss ks.1 ps.1 gs.1 ls.1 F) $ await ! tt $ split ! $ heard ! knows
         (λ q. at_once ! $ move ! (1 ∷ 0 ∷ []) $
         by ! (noted (Knowns (s ∷ ss) ks ps gs ls) (first ∗ others) (p, q))))

@@ -7,7 +7,7 @@ use Prim.Native.Nat.{ℕ, zero, suc, ◌+◌}
 use native.Mathlib.Nat.{add-zero, suc_inj}
 use native.Mathlib.Omega.{arith}
 use lib.ListN.{length}
-use seplogic.Ra.TreeShare.{full_share}
+use base.Fraction.{full_share}
 use mir.Syntax.{w8, ty_int}
 use mir.Val.{Val, vint, as_int}
 use base.Logic.{ent, sep, emp, via, emp∗, assoc', mono_r, fst∗, snd∗}
@@ -57,7 +57,8 @@ gives_one code σ vs bs us u v cs ds g h =
 
 -- ---- what lies in memory is loaded from it
 module _ (w : World) (σ : Memory) where
-  open w use {𝓤, H, 𝓜}
+  open w use {𝓤, 𝓛, 𝓜}
+  open 𝓛 use {H}
 
   abbrev mem : Pr w
   mem = 𝓜.mem σ

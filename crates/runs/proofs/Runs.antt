@@ -5,11 +5,13 @@ use mathlib.Core.List.{List, [], ◌∷◌}
 use Prim.Native.Nat.{ℕ, zero, suc, ◌+◌, ◌^◌, ◌<◌}
 use native.Mathlib.Bridge.{le_prop}
 use lib.Dec.{T, lit<}
-use seplogic.Ra.TreeShare.{full_share}
+use base.Fraction.{full_share}
 use mir.Syntax.{w8, w32, ty_int}
 use lib.ListN.{length}
 use mir.Val.{Val, vint, has_ty, WT}
 use base.Logic.{ent, sep, emp, id⊢, via, emp∗, mono_r, fst∗, snd∗}
+use prog.Routine.{Env}
+use prog.Wired.{Wired}
 use prog.Wp.{run}
 use contract.Adequate.{sat_fact}
 use contract.Monad.{fact, fact_i, fact_use, guard→fact}
@@ -64,7 +66,7 @@ use Rattle.buongilach.proofs.buongilach_sample.Reads as buongilach_sample_reads
 use Rattle.runs.specs.Runs.{Buffer, size, passed, with, Short, lie, Answers, Runs}
 use Rattle.runs.proofs.SessionFits.{session_fits}
 use Rattle.runs.proofs.LentAnswers.{Defined, AnswersLent, answers_lent}
-use Rattle.runs.proofs.LentBytes.{W, lies, Passing, valued, shared, changed}
+use Rattle.runs.proofs.LentBytes.{lies, Passing, valued, shared, changed}
 use Rattle.runs.proofs.Called.{called}
 
 -- ---- what each call is to answer where its arguments are lent, and that its code answers so
@@ -94,31 +96,28 @@ sample_bytes_say κs = λ (session, (s, (p, (t, (decision, _))))).
     let y = sample_bytes session.now s.now p.now t.now decision.now in
     (y.0, (y.1, (tt, (tt, (tt, (y.2, tt))))))
 
-none_lent : AnswersLent session_none.ended none_code.routine none_says
-none_lent = answers_lent session_none.ended none_reads.Post none_code.routine (λ w. none_met.met w.𝓤 w.𝓛 w.𝓜 w.𝓡) none_says
+none_lent : (γ : Env) → Wired γ none_code.code → AnswersLent session_none.ended (γ none_code.name) none_says
+none_lent γ wired = answers_lent session_none.ended none_reads.Post none_code.code none_code.name (λ w. none_met.met w.𝓤 w.𝓛 w.𝓜 w.𝓡) γ wired none_says
     (λ κs a r ws p. ap (λ (y : Session). (y, tt)) (session_one _ _ p))
 
-open_lent : AnswersLent session_open.ended open_code.routine open_says
-open_lent = answers_lent session_open.ended open_reads.Post open_code.routine (λ w. open_met.met w.𝓤 w.𝓛 w.𝓜 w.𝓡) open_says
+open_lent : (γ : Env) → Wired γ open_code.code → AnswersLent session_open.ended (γ open_code.name) open_says
+open_lent γ wired = answers_lent session_open.ended open_reads.Post open_code.code open_code.name (λ w. open_met.met w.𝓤 w.𝓛 w.𝓜 w.𝓡) γ wired open_says
     (λ κs a r ws p. ap (λ (y : Answer). (y, (tt, (tt, (tt, tt))))) (answer_one _ _ p))
 
-sample_lent : AnswersLent session_sample.ended sample_code.routine sample_says
-sample_lent = answers_lent session_sample.ended sample_reads.Post sample_code.routine (λ w. sample_met.met w.𝓤 w.𝓛 w.𝓜 w.𝓡) sample_says
+sample_lent : (γ : Env) → Wired γ sample_code.code → AnswersLent session_sample.ended (γ sample_code.name) sample_says
+sample_lent γ wired = answers_lent session_sample.ended sample_reads.Post sample_code.code sample_code.name (λ w. sample_met.met w.𝓤 w.𝓛 w.𝓜 w.𝓡) γ wired sample_says
     (λ κs a r ws p. ap (λ (y : Answer × List ℕ). (y.0, (tt, (tt, (tt, (tt, (y.1, tt))))))) (call_one _ _ p))
 
-buongilach_open_lent : AnswersLent buongilach_open.ended buongilach_open_code.routine open_bytes_say
-buongilach_open_lent = answers_lent buongilach_open.ended buongilach_open_reads.Post buongilach_open_code.routine
-    (λ w. buongilach_open_met.met w.𝓤 w.𝓛 w.𝓜 w.𝓡) open_bytes_say
+buongilach_open_lent : (γ : Env) → Wired γ buongilach_open_code.code → AnswersLent buongilach_open.ended (γ buongilach_open_code.name) open_bytes_say
+buongilach_open_lent γ wired = answers_lent buongilach_open.ended buongilach_open_reads.Post buongilach_open_code.code buongilach_open_code.name (λ w. buongilach_open_met.met w.𝓤 w.𝓛 w.𝓜 w.𝓡) γ wired open_bytes_say
     (λ κs a r ws p. ap (λ (y : ℕ × List ℕ). (y.0, (y.1, (tt, tt)))) p)
 
-buongilach_open_with_lent : AnswersLent buongilach_open_with.ended buongilach_open_with_code.routine open_bytes_with_say
-buongilach_open_with_lent = answers_lent buongilach_open_with.ended buongilach_open_with_reads.Post buongilach_open_with_code.routine
-    (λ w. buongilach_open_with_met.met w.𝓤 w.𝓛 w.𝓜 w.𝓡) open_bytes_with_say
+buongilach_open_with_lent : (γ : Env) → Wired γ buongilach_open_with_code.code → AnswersLent buongilach_open_with.ended (γ buongilach_open_with_code.name) open_bytes_with_say
+buongilach_open_with_lent γ wired = answers_lent buongilach_open_with.ended buongilach_open_with_reads.Post buongilach_open_with_code.code buongilach_open_with_code.name (λ w. buongilach_open_with_met.met w.𝓤 w.𝓛 w.𝓜 w.𝓡) γ wired open_bytes_with_say
     (λ κs a r ws p. ap (λ (y : ℕ × List ℕ). (y.0, (y.1, (tt, (tt, tt))))) p)
 
-buongilach_sample_lent : AnswersLent buongilach_sample.ended buongilach_sample_code.routine sample_bytes_say
-buongilach_sample_lent = answers_lent buongilach_sample.ended buongilach_sample_reads.Post buongilach_sample_code.routine
-    (λ w. buongilach_sample_met.met w.𝓤 w.𝓛 w.𝓜 w.𝓡) sample_bytes_say
+buongilach_sample_lent : (γ : Env) → Wired γ buongilach_sample_code.code → AnswersLent buongilach_sample.ended (γ buongilach_sample_code.name) sample_bytes_say
+buongilach_sample_lent γ wired = answers_lent buongilach_sample.ended buongilach_sample_reads.Post buongilach_sample_code.code buongilach_sample_code.name (λ w. buongilach_sample_met.met w.𝓤 w.𝓛 w.𝓜 w.𝓡) γ wired sample_bytes_say
     (λ κs a r ws p. ap (λ (y : Sampled). (y.0, (y.1, (tt, (tt, (tt, (y.2, tt))))))) p)
 
 -- ---- bytes lie in memory
@@ -138,90 +137,88 @@ bytes_of w (x ∷ xs) b o =
     (λ q. fact_i w.𝓤 (Bytes (x ∷ xs)) _ (bytes_more x xs t.1.fits q)))
 
 -- ---- and where they lie in memory
-module _ (w : World) where
-  open w use {𝓤, H, 𝓜, 𝓖}
+module _ (w : World) (γ : Env) where
+  open w use {𝓤, 𝓛}
 
   abbrev session : (x : Session) (v : Val) → Is session_type.the_row x (v ∷ []) → (n : ℕ) (κs : Lfts n) → Passing w n κs session_type.the_row yes
-  session x v is n κs = valued w n κs session_type.the_row x (v ∷ []) (makes session_type.the_type session_laws.the_plain 𝓤 H 𝓖.A x (v ∷ []) is)
+  session x v is n κs = valued w n κs session_type.the_row x (v ∷ []) (makes session_type.the_type session_laws.the_plain 𝓛 x (v ∷ []) is)
 
   abbrev chosen : (choice : Choice) (u : Val) → Is choice_type.the_row choice (u ∷ []) → (n : ℕ) (κs : Lfts n) → Passing w n κs choice_type.the_row yes
-  chosen choice u is n κs = valued w n κs choice_type.the_row choice (u ∷ []) (enum.makes choice_type.the_type choice_laws.the_plain 𝓤 H 𝓖.A choice (u ∷ []) is)
+  chosen choice u is n κs = valued w n κs choice_type.the_row choice (u ∷ []) (enum.makes choice_type.the_type choice_laws.the_plain 𝓛 choice (u ∷ []) is)
 
-  module _ (x : Session) (v : Val) (is : Is session_type.the_row x (v ∷ [])) where
-    opens : (s : Buffer) → Short (s ∷ []) → (choice : Choice) (u : Val) → Is choice_type.the_row choice (u ∷ [])
-        → Answers w open_code.routine (v ∷ []) (s ∷ []) (u ∷ []) answer_type.the_row (open_of x s.bytes choice) (s ∷ [])
-    unfolding valued shared
-    opens s short choice c is_c σ rest =
-        let y : Answer = open_of x s.bytes choice in
-        let B : Pr w = lie w (s ∷ []) rest in
-        called w session_open.ended open_code.routine open_says open_lent (λ κs. tt)
-        (λ κs. (session x v is 1 κs, (shared w 1 κs 0 tt s short.0, (chosen choice c is_c 1 κs, tt)))) rest
-        (v ∷ passed s ∷ c ∷ []) B B (λ u. Is answer_type.the_row y (u ∷ [])) (size s ∷ [] ≡ size s ∷ []) (λ κs. refl)
-        (λ κs. via 𝓤 (sep 𝓤 (lies w s) (sep 𝓤 (emp 𝓤) rest)) (mono_r 𝓤 (lies w s) (emp∗ 𝓤 rest)) (emp∗ 𝓤 (sep 𝓤 (lies w s) (sep 𝓤 (emp 𝓤) rest))))
-        (λ κs gs u. shows 𝓤 H 𝓖.A answer_type.the_row y (u ∷ [])) (λ κs gs k. refl)
-        (λ κs gs. via 𝓤 (sep 𝓤 (lies w s) (sep 𝓤 (emp 𝓤) rest)) (snd∗ 𝓤 (emp 𝓤) (sep 𝓤 (lies w s) (sep 𝓤 (emp 𝓤) rest)))
-        (mono_r 𝓤 (lies w s) (snd∗ 𝓤 (emp 𝓤) rest))) σ
+  opens : Wired γ open_code.code → (x : Session) (v : Val) → Is session_type.the_row x (v ∷ []) → (s : Buffer) → Short (s ∷ []) → (choice : Choice) (u : Val) → Is choice_type.the_row choice (u ∷ [])
+      → Answers w (γ open_code.name) (v ∷ []) (s ∷ []) (u ∷ []) answer_type.the_row (open_of x s.bytes choice) (s ∷ [])
+  unfolding valued shared
+  opens wired x v is s short choice c is_c σ rest =
+      let y : Answer = open_of x s.bytes choice in
+      let B : Pr w = lie w (s ∷ []) rest in
+      called w session_open.ended (γ open_code.name) open_says (open_lent γ wired) (λ κs. tt)
+      (λ κs. (session x v is 1 κs, (shared w 1 κs 0 tt s short.0, (chosen choice c is_c 1 κs, tt)))) rest
+      (v ∷ passed s ∷ c ∷ []) B B (λ u. Is answer_type.the_row y (u ∷ [])) (size s ∷ [] ≡ size s ∷ []) (λ κs. refl)
+      (λ κs. via 𝓤 (sep 𝓤 (lies w s) (sep 𝓤 (emp 𝓤) rest)) (mono_r 𝓤 (lies w s) (emp∗ 𝓤 rest)) (emp∗ 𝓤 (sep 𝓤 (lies w s) (sep 𝓤 (emp 𝓤) rest))))
+      (λ κs gs u. shows 𝓛 answer_type.the_row y (u ∷ [])) (λ κs gs k. refl)
+      (λ κs gs. via 𝓤 (sep 𝓤 (lies w s) (sep 𝓤 (emp 𝓤) rest)) (snd∗ 𝓤 (emp 𝓤) (sep 𝓤 (lies w s) (sep 𝓤 (emp 𝓤) rest)))
+      (mono_r 𝓤 (lies w s) (snd∗ 𝓤 (emp 𝓤) rest))) σ
 
-    samples : (s p t out : Buffer) → Short (s ∷ p ∷ t ∷ out ∷ []) → let y = sample_call x s.bytes p.bytes t.bytes out.bytes in
-        Answers w sample_code.routine (v ∷ []) (s ∷ p ∷ t ∷ out ∷ []) [] answer_type.the_row y.0 (s ∷ p ∷ t ∷ with out y.1 ∷ [])
-    unfolding valued shared changed
-    samples s p t out short σ rest =
-        let y : Answer × List ℕ = sample_call x s.bytes p.bytes t.bytes out.bytes in
-        let B : Pr w = lie w (s ∷ p ∷ t ∷ out ∷ []) rest in
-        let C : Pr w = lie w (s ∷ p ∷ t ∷ with out y.1 ∷ []) rest in
-        let (s<, (p<, (t<, (out<, _)))) = short in
-        let sizes : ℕ → List ℕ = λ k. size s ∷ size p ∷ size t ∷ k ∷ [] in
-        called w session_sample.ended sample_code.routine sample_says sample_lent (λ κs. tt)
-        (λ κs. (session x v is 4 κs, (shared w 4 κs 0 tt s s<, (shared w 4 κs 1 tt p p<, (shared w 4 κs 2 tt t t<, (changed w 4 κs 3 tt out out<, tt))))))
-        rest (v ∷ passed s ∷ passed p ∷ passed t ∷ passed out ∷ []) B C
-        (λ u. Is answer_type.the_row y.0 (u ∷ [])) (sizes (length y.1) ≡ sizes (size out)) (λ κs. refl) (λ κs. emp∗ 𝓤 B)
-        (λ κs gs u. shows 𝓤 H 𝓖.A answer_type.the_row y.0 (u ∷ [])) (λ κs gs. λ (_, (_, (_, (_, (k, _))))). ap sizes k) (λ κs gs. snd∗ 𝓤 (emp 𝓤) C) σ
+  samples : Wired γ sample_code.code → (x : Session) (v : Val) → Is session_type.the_row x (v ∷ []) → (s p t out : Buffer) → Short (s ∷ p ∷ t ∷ out ∷ []) → let y = sample_call x s.bytes p.bytes t.bytes out.bytes in
+      Answers w (γ sample_code.name) (v ∷ []) (s ∷ p ∷ t ∷ out ∷ []) [] answer_type.the_row y.0 (s ∷ p ∷ t ∷ with out y.1 ∷ [])
+  unfolding valued shared changed
+  samples wired x v is s p t out short σ rest =
+      let y : Answer × List ℕ = sample_call x s.bytes p.bytes t.bytes out.bytes in
+      let B : Pr w = lie w (s ∷ p ∷ t ∷ out ∷ []) rest in
+      let C : Pr w = lie w (s ∷ p ∷ t ∷ with out y.1 ∷ []) rest in
+      let (s<, (p<, (t<, (out<, _)))) = short in
+      let sizes : ℕ → List ℕ = λ k. size s ∷ size p ∷ size t ∷ k ∷ [] in
+      called w session_sample.ended (γ sample_code.name) sample_says (sample_lent γ wired) (λ κs. tt)
+      (λ κs. (session x v is 4 κs, (shared w 4 κs 0 tt s s<, (shared w 4 κs 1 tt p p<, (shared w 4 κs 2 tt t t<, (changed w 4 κs 3 tt out out<, tt))))))
+      rest (v ∷ passed s ∷ passed p ∷ passed t ∷ passed out ∷ []) B C
+      (λ u. Is answer_type.the_row y.0 (u ∷ [])) (sizes (length y.1) ≡ sizes (size out)) (λ κs. refl) (λ κs. emp∗ 𝓤 B)
+      (λ κs gs u. shows 𝓛 answer_type.the_row y.0 (u ∷ [])) (λ κs gs. λ (_, (_, (_, (_, (k, _))))). ap sizes k) (λ κs gs. snd∗ 𝓤 (emp 𝓤) C) σ
 
-  module _ (session consist : Buffer) (short : Short (session ∷ consist ∷ [])) where
-    buongilach_opens : let y = open_bytes consist.bytes session.bytes FiveSeconds in
-        Answers w buongilach_open_code.routine [] (session ∷ consist ∷ []) [] u8 y.0 (with session y.1 ∷ consist ∷ [])
-    unfolding shared changed
-    buongilach_opens σ rest =
-        let y : ℕ × List ℕ = open_bytes consist.bytes session.bytes FiveSeconds in
-        let B : Pr w = lie w (session ∷ consist ∷ []) rest in
-        let C : Pr w = lie w (with session y.1 ∷ consist ∷ []) rest in
-        let sizes : ℕ → List ℕ = λ k. k ∷ size consist ∷ [] in
-        called w buongilach_open.ended buongilach_open_code.routine open_bytes_say buongilach_open_lent (λ κs. tt)
-        (λ κs. (changed w 2 κs 0 tt session short.0, (shared w 2 κs 1 tt consist short.1.0, tt))) rest (passed session ∷ passed consist ∷ []) B C
-        (λ u. Is u8 y.0 (u ∷ [])) (sizes (length y.1) ≡ sizes (size session)) (λ κs. refl) (λ κs. id⊢ 𝓤 B)
-        (λ κs gs u. shows 𝓤 H 𝓖.A u8 y.0 (u ∷ [])) (λ κs gs k. ap sizes k.0) (λ κs gs. id⊢ 𝓤 C) σ
-
-    buongilach_opens_with : (everlasting : ℕ) → everlasting < 2 ^ 32 → let y = open_bytes consist.bytes session.bytes (choice_of everlasting) in
-        Answers w buongilach_open_with_code.routine [] (session ∷ consist ∷ []) (vint w32 everlasting ∷ []) u8 y.0 (with session y.1 ∷ consist ∷ [])
-    unfolding valued shared changed
-    buongilach_opens_with everlasting fits σ rest =
-        let y : ℕ × List ℕ = open_bytes consist.bytes session.bytes (choice_of everlasting) in
-        let B : Pr w = lie w (session ∷ consist ∷ []) rest in
-        let C : Pr w = lie w (with session y.1 ∷ consist ∷ []) rest in
-        let sizes : ℕ → List ℕ = λ k. k ∷ size consist ∷ [] in
-        let number : (κs : Lfts 2) → Passing w 2 κs u32 yes = λ κs.
-        valued w 2 κs u32 everlasting (vint w32 everlasting ∷ []) (uint_Makes 𝓤 H 𝓖.A (W w) w32 everlasting (vint w32 everlasting ∷ []) (refl, fits)) in
-        called w buongilach_open_with.ended buongilach_open_with_code.routine open_bytes_with_say buongilach_open_with_lent (λ κs. tt)
-        (λ κs. (changed w 2 κs 0 tt session short.0, (shared w 2 κs 1 tt consist short.1.0, (number κs, tt)))) rest
-        (passed session ∷ passed consist ∷ vint w32 everlasting ∷ []) B C
-        (λ u. Is u8 y.0 (u ∷ [])) (sizes (length y.1) ≡ sizes (size session)) (λ κs. refl) (λ κs. mono_r 𝓤 (lies w session) (mono_r 𝓤 (lies w consist) (emp∗ 𝓤 rest)))
-        (λ κs gs u. shows 𝓤 H 𝓖.A u8 y.0 (u ∷ [])) (λ κs gs k. ap sizes k.0) (λ κs gs. mono_r 𝓤 (lies w (with session y.1)) (mono_r 𝓤 (lies w consist) (snd∗ 𝓤 (emp 𝓤) rest))) σ
-
-  buongilach_samples : (session s p t decision : Buffer) → Short (session ∷ s ∷ p ∷ t ∷ decision ∷ [])
-      → let y = sample_bytes session.bytes s.bytes p.bytes t.bytes decision.bytes in
-      Answers w buongilach_sample_code.routine [] (session ∷ s ∷ p ∷ t ∷ decision ∷ []) [] u8 y.0 (with session y.1 ∷ s ∷ p ∷ t ∷ with decision y.2 ∷ [])
+  buongilach_opens : Wired γ buongilach_open_code.code → (session consist : Buffer) → Short (session ∷ consist ∷ []) → let y = open_bytes consist.bytes session.bytes FiveSeconds in
+      Answers w (γ buongilach_open_code.name) [] (session ∷ consist ∷ []) [] u8 y.0 (with session y.1 ∷ consist ∷ [])
   unfolding shared changed
-  buongilach_samples session s p t decision short σ rest =
+  buongilach_opens wired session consist short σ rest =
+      let y : ℕ × List ℕ = open_bytes consist.bytes session.bytes FiveSeconds in
+      let B : Pr w = lie w (session ∷ consist ∷ []) rest in
+      let C : Pr w = lie w (with session y.1 ∷ consist ∷ []) rest in
+      let sizes : ℕ → List ℕ = λ k. k ∷ size consist ∷ [] in
+      called w buongilach_open.ended (γ buongilach_open_code.name) open_bytes_say (buongilach_open_lent γ wired) (λ κs. tt)
+      (λ κs. (changed w 2 κs 0 tt session short.0, (shared w 2 κs 1 tt consist short.1.0, tt))) rest (passed session ∷ passed consist ∷ []) B C
+      (λ u. Is u8 y.0 (u ∷ [])) (sizes (length y.1) ≡ sizes (size session)) (λ κs. refl) (λ κs. id⊢ 𝓤 B)
+      (λ κs gs u. shows 𝓛 u8 y.0 (u ∷ [])) (λ κs gs k. ap sizes k.0) (λ κs gs. id⊢ 𝓤 C) σ
+
+  buongilach_opens_with : Wired γ buongilach_open_with_code.code → (session consist : Buffer) → Short (session ∷ consist ∷ []) → (everlasting : ℕ) → everlasting < 2 ^ 32 → let y = open_bytes consist.bytes session.bytes (choice_of everlasting) in
+      Answers w (γ buongilach_open_with_code.name) [] (session ∷ consist ∷ []) (vint w32 everlasting ∷ []) u8 y.0 (with session y.1 ∷ consist ∷ [])
+  unfolding valued shared changed
+  buongilach_opens_with wired session consist short everlasting fits σ rest =
+      let y : ℕ × List ℕ = open_bytes consist.bytes session.bytes (choice_of everlasting) in
+      let B : Pr w = lie w (session ∷ consist ∷ []) rest in
+      let C : Pr w = lie w (with session y.1 ∷ consist ∷ []) rest in
+      let sizes : ℕ → List ℕ = λ k. k ∷ size consist ∷ [] in
+      let number : (κs : Lfts 2) → Passing w 2 κs u32 yes = λ κs.
+      valued w 2 κs u32 everlasting (vint w32 everlasting ∷ []) (uint_Makes 𝓛 w32 everlasting (vint w32 everlasting ∷ []) (refl, fits)) in
+      called w buongilach_open_with.ended (γ buongilach_open_with_code.name) open_bytes_with_say (buongilach_open_with_lent γ wired) (λ κs. tt)
+      (λ κs. (changed w 2 κs 0 tt session short.0, (shared w 2 κs 1 tt consist short.1.0, (number κs, tt)))) rest
+      (passed session ∷ passed consist ∷ vint w32 everlasting ∷ []) B C
+      (λ u. Is u8 y.0 (u ∷ [])) (sizes (length y.1) ≡ sizes (size session)) (λ κs. refl) (λ κs. mono_r 𝓤 (lies w session) (mono_r 𝓤 (lies w consist) (emp∗ 𝓤 rest)))
+      (λ κs gs u. shows 𝓛 u8 y.0 (u ∷ [])) (λ κs gs k. ap sizes k.0) (λ κs gs. mono_r 𝓤 (lies w (with session y.1)) (mono_r 𝓤 (lies w consist) (snd∗ 𝓤 (emp 𝓤) rest))) σ
+
+  buongilach_samples : Wired γ buongilach_sample_code.code → (session s p t decision : Buffer) → Short (session ∷ s ∷ p ∷ t ∷ decision ∷ [])
+      → let y = sample_bytes session.bytes s.bytes p.bytes t.bytes decision.bytes in
+      Answers w (γ buongilach_sample_code.name) [] (session ∷ s ∷ p ∷ t ∷ decision ∷ []) [] u8 y.0 (with session y.1 ∷ s ∷ p ∷ t ∷ with decision y.2 ∷ [])
+  unfolding shared changed
+  buongilach_samples wired session s p t decision short σ rest =
       let y : Sampled = sample_bytes session.bytes s.bytes p.bytes t.bytes decision.bytes in
       let B : Pr w = lie w (session ∷ s ∷ p ∷ t ∷ decision ∷ []) rest in
       let C : Pr w = lie w (with session y.1 ∷ s ∷ p ∷ t ∷ with decision y.2 ∷ []) rest in
       let (session<, (s<, (p<, (t<, (decision<, _))))) = short in
       let sizes : ℕ → ℕ → List ℕ = λ j k. j ∷ size s ∷ size p ∷ size t ∷ k ∷ [] in
-      called w buongilach_sample.ended buongilach_sample_code.routine sample_bytes_say buongilach_sample_lent (λ κs. tt)
+      called w buongilach_sample.ended (γ buongilach_sample_code.name) sample_bytes_say (buongilach_sample_lent γ wired) (λ κs. tt)
       (λ κs. (changed w 5 κs 0 tt session session<, (shared w 5 κs 1 tt s s<, (shared w 5 κs 2 tt p p<, (shared w 5 κs 3 tt t t<, (changed w 5 κs 4 tt decision decision<, tt))))))
       rest (passed session ∷ passed s ∷ passed p ∷ passed t ∷ passed decision ∷ []) B C
       (λ u. Is u8 y.0 (u ∷ [])) (sizes (length y.1) (length y.2) ≡ sizes (size session) (size decision)) (λ κs. refl) (λ κs. id⊢ 𝓤 B)
-      (λ κs gs u. shows 𝓤 H 𝓖.A u8 y.0 (u ∷ [])) (λ κs gs. λ (j, (_, (_, (_, (k, _))))). ap₂ sizes j k) (λ κs gs. id⊢ 𝓤 C) σ
+      (λ κs gs u. shows 𝓛 u8 y.0 (u ∷ [])) (λ κs gs. λ (j, (_, (_, (_, (k, _))))). ap₂ sizes j k) (λ κs gs. id⊢ 𝓤 C) σ
 
 pub runs : Runs
 runs = record {
@@ -232,7 +229,7 @@ runs = record {
       (via w.𝓤 (sep w.𝓤 lying rest) (snd∗ w.𝓤 (w.𝓜.mem σ) (sep w.𝓤 lying rest))
       (via w.𝓤 lying (fst∗ w.𝓤 lying rest) (bytes_of w b.bytes b.block b.offset))) s)
       le_prop (λ h. h i);
-  none = λ w σ rest. called w session_none.ended none_code.routine none_says none_lent (λ κs. tt) (λ κs. tt) rest [] rest rest
+  none = λ w γ wired σ rest. called w session_none.ended (γ none_code.name) none_says (none_lent γ wired) (λ κs. tt) (λ κs. tt) rest [] rest rest
       (λ v. Is session_type.the_row none_open (v ∷ [])) ([] ≡ [])
       (λ κs. refl) (λ κs. id⊢ w.𝓤 rest) (λ κs gs v. shows w.𝓛 session_type.the_row none_open (v ∷ [])) (λ κs gs k. refl)
       (λ κs gs. id⊢ w.𝓤 rest) σ;

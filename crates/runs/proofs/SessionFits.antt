@@ -1,5 +1,5 @@
 -- A session that fits its words has a value, and no other; and every choice has one. Assumes nothing.
-use mathlib.Core.Path.{◌≡◌, refl, sym, ◌∙◌, ap, subst}
+use mathlib.Core.Path.{◌≡◌, refl, subst}
 use mathlib.Core.Bool.{Bool, true, false}
 use mathlib.Core.List.{List, [], ◌∷◌, map}
 use Prim.Native.Nat.{ℕ, ◌≤◌, ◌<◌, ◌^◌}
@@ -92,14 +92,6 @@ heard_is : (heard : Heard) → heard_number heard ≤ 2 ^ 32 → Is heard_type.t
 heard_is Never h = enum.owes heard_type.the_type heard_value.the_laws Never tt
 heard_is (At time) h = enum.owes heard_type.the_type heard_value.the_laws (At time) (uint w32 h ⨾ end)
 
--- an array in a struct is told number by number, each as it is
-abbrev each_as_is : List ℕ → List ℕ
-each_as_is ns = map (λ (n : ℕ). n) ns
-
-as_is : (ns : List ℕ) → each_as_is ns ≡ ns
-as_is [] = refl
-as_is (n ∷ ns) = ap (λ (ms : List ℕ). n ∷ ms) (as_is ns)
-
 -- an array's value is that of its numbers, place by place
 abbrev pub numbers : List ℕ → List Val
 numbers ns = map (λ (n : ℕ). vint w16 n) ns
@@ -108,19 +100,16 @@ elements_are : (ns : List ℕ) → Words 16 ns → shadow (each ℕ (UInt w16).o
 elements_are [] f = tt
 elements_are (n ∷ ns) f = (uint w16 f.0, elements_are ns f.1)
 
-array_is : (k : ℕ) (ns : List ℕ) → length ns ≡ k → Words 16 ns → Is (Array (UInt w16) k) (each_as_is ns) (array_val (numbers (each_as_is ns)) ∷ [])
-array_is k ns l f =
-    let ms = each_as_is ns in
-    (numbers ms, ((refl, ap length (as_is ns) ∙ l), elements_are ms (subst (Words 16) (sym (as_is ns)) f)))
+array_is : (k : ℕ) (ns : List ℕ) → length ns ≡ k → Words 16 ns → Is (Array (UInt w16) k) ns (array_val (numbers ns) ∷ [])
+array_is k ns l f = (numbers ns, ((refl, l), elements_are ns f))
 
 elements_fit : (ns : List ℕ) (us : List Val) → shadow (each ℕ (UInt w16).own_val ns us) → Words 16 ns
 elements_fit [] us s = tt
 elements_fit (n ∷ ns) [] s = absurd s
 elements_fit (n ∷ ns) (u ∷ us) s = (s.0.1, elements_fit ns us s.1)
 
-array_fits : (k : ℕ) (ns : List ℕ) (vs : List Val) → Is (Array (UInt w16) k) (each_as_is ns) vs → (length ns ≡ k) × Words 16 ns
-array_fits k ns vs is =
-    (sym (ap length (as_is ns)) ∙ is.1.0.1, subst (Words 16) (as_is ns) (elements_fit (each_as_is ns) is.0 is.1.1))
+array_fits : (k : ℕ) (ns : List ℕ) (vs : List Val) → Is (Array (UInt w16) k) ns vs → (length ns ≡ k) × Words 16 ns
+array_fits k ns vs is = (is.1.0.1, elements_fit ns is.0 is.1.1)
 
 pub session_is : (x : Session) → FitsWords x → Is session_type.the_row x (session_value.lowered x ∷ [])
 session_is x f =

@@ -3,8 +3,8 @@ use mathlib.Core.Path.{◌≡◌, refl, sym, ◌∙◌, ap, ap₂}
 use mathlib.Core.Bool.{Bool, false}
 use mathlib.Core.List.{List, [], ◌∷◌}
 use Prim.Native.Nat.{ℕ, zero, suc}
-use lib.ListN.{length, get_or}
-use mir.Val.{Val, Vals, vnil, vcons, vunit, vbool, vint, vfloat, vptr, vstruct, as_int, as_bool}
+use lib.ListN.{get_or}
+use mir.Val.{Val, Vals, vnil, vcons, vunit, vbool, vint, vfloat, vptr, vcode, vstruct, as_int, as_bool}
 use mir.Fields.{get_v}
 use denote.Array.{array_val}
 use Rattle.bits.specs.Fields.{bit}
@@ -48,6 +48,7 @@ part (vbool b) i = vunit
 part (vint w n) i = vunit
 part (vfloat f x) i = vunit
 part (vptr b o) i = vunit
+part (vcode s) i = vunit
 part (vstruct vs) i = get_v vs i
 
 -- the numbers of an array's value
@@ -61,6 +62,7 @@ array_in (vbool b) = []
 array_in (vint w n) = []
 array_in (vfloat f x) = []
 array_in (vptr b o) = []
+array_in (vcode s) = []
 array_in (vstruct vs) = numbers_in vs
 
 array_read : (ns : List ℕ) → array_in (array_val (numbers ns)) ≡ ns

@@ -1,13 +1,15 @@
 -- The code's own answers. Statements; proofs/Runs.antt proves them.
--- `routine` is a call's code, as the machine runs it: with some fuel, on machine values, from a memory.
+-- A routine is a call's code, as the machine runs it: with some fuel, on machine values, from a memory, with no other thread beside it. An environment γ says
+-- which routine each call is. Any will do that has the call's own code, and that of all it calls in turn (`Wired`): each program that links them is one.
 use Rattle.std.specs.Prelude.{◌≡◌, List, [], ◌∷◌, ◌++◌, map, ℕ, ◌<◌, ◌^◌, length}
-use seplogic.Ra.TreeShare.{full_share}
+use base.Fraction.{full_share}
 use Rattle.std.specs.Int.{w8, w32}
 use mir.Val.{Val, vint}
 use base.Logic.{sep}
 use prog.Memory.{Memory}
 use prog.Machine.{done}
-use prog.Routine.{Routine}
+use prog.Routine.{Routine, Env, step}
+use prog.Wired.{Wired}
 use prog.Wp.{run}
 use contract.Adequate.{Satisfies}
 use borrow.Fn.World.{World, Pr}
@@ -66,29 +68,29 @@ module _ (w : World) where
   abbrev pub Answers : Routine → List Val → List Buffer → List Val → (R : RattleType) → R.Denot → List Buffer → Type 2
   Answers code vs before us R answer after =
       (σ : Memory) (rest : Pr w) → Satisfies w.𝓤 w.𝓛.H w.𝓜 σ (lie before rest)
-      → ∥ ((n : ℕ) × (v : Val) × (σ' : Memory) × (code.step n (vs ++ (map passed before ++ us)) σ ≡ done (v, σ')) × Is R answer (v ∷ []) ×
+      → ∥ ((n : ℕ) × (v : Val) × (σ' : Memory) × (step code n (vs ++ (map passed before ++ us)) σ ≡ done (v, σ')) × Is R answer (v ∷ []) ×
       (map size after ≡ map size before)
       × Satisfies w.𝓤 w.𝓛.H w.𝓜 σ' (lie after rest)) ∥₁
 
--- in every model of the machine's memory
+-- in every model of the machine's memory, and every environment that has the code
 pub record Runs : Type 2 where
   -- what the code is given fits its words: only such a session has a value, and only bytes lie in memory
   pub fits : (x : Session) (v : Val) → Is session_type.the_row x (v ∷ []) → FitsWords x
   pub bytes : (w : World) (b : Buffer) (rest : Pr w) (σ : Memory) → Satisfies w.𝓤 w.𝓛.H w.𝓜 σ (lie w (b ∷ []) rest) → Bytes b.bytes
-  pub none : (w : World) → Answers w session_none.routine [] [] [] session_type.the_row none_open []
+  pub none : (w : World) (γ : Env) → Wired γ session_none.code → Answers w (γ session_none.name) [] [] [] session_type.the_row none_open []
   -- v is the session's value, u the choice's
-  pub opens : (w : World) (x : Session) (v : Val) → Is session_type.the_row x (v ∷ []) → (s : Buffer) → Short (s ∷ [])
+  pub opens : (w : World) (γ : Env) → Wired γ session_open.code → (x : Session) (v : Val) → Is session_type.the_row x (v ∷ []) → (s : Buffer) → Short (s ∷ [])
       → (choice : Choice) (u : Val) → Is choice_type.the_row choice (u ∷ [])
-      → Answers w session_open.routine (v ∷ []) (s ∷ []) (u ∷ []) answer_type.the_row (open_of x s.bytes choice) (s ∷ [])
-  pub samples : (w : World) (x : Session) (v : Val) → Is session_type.the_row x (v ∷ []) → (s p t out : Buffer) → Short (s ∷ p ∷ t ∷ out ∷ [])
+      → Answers w (γ session_open.name) (v ∷ []) (s ∷ []) (u ∷ []) answer_type.the_row (open_of x s.bytes choice) (s ∷ [])
+  pub samples : (w : World) (γ : Env) → Wired γ session_sample.code → (x : Session) (v : Val) → Is session_type.the_row x (v ∷ []) → (s p t out : Buffer) → Short (s ∷ p ∷ t ∷ out ∷ [])
       → let y = sample_call x s.bytes p.bytes t.bytes out.bytes in
-      Answers w session_sample.routine (v ∷ []) (s ∷ p ∷ t ∷ out ∷ []) [] answer_type.the_row y.0 (s ∷ p ∷ t ∷ with out y.1 ∷ [])
-  pub buongilach_opens : (w : World) (session consist : Buffer) → Short (session ∷ consist ∷ [])
+      Answers w (γ session_sample.name) (v ∷ []) (s ∷ p ∷ t ∷ out ∷ []) [] answer_type.the_row y.0 (s ∷ p ∷ t ∷ with out y.1 ∷ [])
+  pub buongilach_opens : (w : World) (γ : Env) → Wired γ buongilach_open.code → (session consist : Buffer) → Short (session ∷ consist ∷ [])
       → let y = open_bytes consist.bytes session.bytes FiveSeconds in
-      Answers w buongilach_open.routine [] (session ∷ consist ∷ []) [] u8 y.0 (with session y.1 ∷ consist ∷ [])
-  pub buongilach_opens_with : (w : World) (session consist : Buffer) → Short (session ∷ consist ∷ []) → (everlasting : ℕ) → everlasting < 2 ^ 32
+      Answers w (γ buongilach_open.name) [] (session ∷ consist ∷ []) [] u8 y.0 (with session y.1 ∷ consist ∷ [])
+  pub buongilach_opens_with : (w : World) (γ : Env) → Wired γ buongilach_open_with.code → (session consist : Buffer) → Short (session ∷ consist ∷ []) → (everlasting : ℕ) → everlasting < 2 ^ 32
       → let y = open_bytes consist.bytes session.bytes (choice_of everlasting) in
-      Answers w buongilach_open_with.routine [] (session ∷ consist ∷ []) (vint w32 everlasting ∷ []) u8 y.0 (with session y.1 ∷ consist ∷ [])
-  pub buongilach_samples : (w : World) (session s p t decision : Buffer) → Short (session ∷ s ∷ p ∷ t ∷ decision ∷ [])
+      Answers w (γ buongilach_open_with.name) [] (session ∷ consist ∷ []) (vint w32 everlasting ∷ []) u8 y.0 (with session y.1 ∷ consist ∷ [])
+  pub buongilach_samples : (w : World) (γ : Env) → Wired γ buongilach_sample.code → (session s p t decision : Buffer) → Short (session ∷ s ∷ p ∷ t ∷ decision ∷ [])
       → let y = sample_bytes session.bytes s.bytes p.bytes t.bytes decision.bytes in
-      Answers w buongilach_sample.routine [] (session ∷ s ∷ p ∷ t ∷ decision ∷ []) [] u8 y.0 (with session y.1 ∷ s ∷ p ∷ t ∷ with decision y.2 ∷ [])
+      Answers w (γ buongilach_sample.name) [] (session ∷ s ∷ p ∷ t ∷ decision ∷ []) [] u8 y.0 (with session y.1 ∷ s ∷ p ∷ t ∷ with decision y.2 ∷ [])
