@@ -3,7 +3,7 @@ SHELL := bash
 .SHELLFLAGS := -o pipefail -c
 .PHONY: check test run bench dist install
 
-# The gate, its words kept for `make dist`.
+# The gate, its words kept for `make dist`; a release wants ANEW=1 make check (docs/DECISIONS.md 179).
 check:
 	@{ echo "commit $$(git rev-parse HEAD)$$(git status --porcelain | sed -n "1s/.*/ changed/p")"; .ci/run; } 2>&1 | tee gate.log
 
@@ -20,7 +20,7 @@ run:
 bench:
 	@bench/run
 
-# The release in dist/, after `make check` on the same commit.
+# The release in dist/, after `ANEW=1 make check` on the same commit.
 dist:
 	@tools/dist
 

@@ -42,11 +42,22 @@ class Times(unittest.TestCase):
                                 "whole.say": LINES[0] + "\n"})
 
     def test_summary(self):
-        self.assertEqual(self.costs.summary(), "rt ci: 150 s by the clock, 2 crates, 2 edits refused, 1 bad; "
+        self.assertEqual(self.costs.summary(), "rt ci: 150 s by the clock, 2 crates, 2 edits refused, 0 of them for a name alone, 1 bad; "
                          "done in this run: 1 of the 2 proofs (of crates and of their tests)")
 
     def test_a_bad_edit(self):
-        self.assertEqual(self.costs.bad, 1)
+        self.assertEqual(self.costs.shows_nothing(), 1)
+
+    def test_a_bad_edit_in_the_last_words_alone(self):
+        costs = times.Costs()
+        costs.take(LINES[-2])
+        self.assertEqual(costs.shows_nothing(), 1)
+
+    def test_an_edit_refused_for_a_name_alone(self):
+        costs = times.Costs()
+        costs.take("rt: must-fail bits/seven_bits.edit: refused, as it must be (only because a proof file names what the edit took away, "
+                   "so this says little of the contract: change a value and keep the names): proofs/word/Proof.antt:3:1: error")
+        self.assertEqual(costs.shows_nothing(), 1)
 
 
 if __name__ == "__main__":

@@ -6,6 +6,7 @@ use Prim.Native.Nat.{ℕ, zero, suc, ◌-◌, ◌^◌, ◌≤◌, ◌<◌}
 use native.Mathlib.Decide.{dec_lt}
 use native.Mathlib.Omega.{arith}
 use denote.Ref.{Bor}
+use denote.MutBor.{MutBor}
 use lib.ListN.{length, get_or, drop, replicate, length-append, length-drop}
 use lib.Seq.{drop_at}
 use borrow.Author.Tests.{le-ltb}
@@ -112,6 +113,9 @@ value_lawful = record { fits = λ z x f o. open_fits x o; reads = λ z x o. refl
 unfoldable pub lent : List ℕ → Bor (List ℕ)
 lent bytes = record { ref_ptr = (0, 0); now = bytes }
 
+unfoldable pub lent_mut : List ℕ → MutBor (List ℕ)
+lent_mut bytes = record { ref_ptr = (0, 0); ghost_name = 0; now = bytes }
+
 pub program_meets : (x : Session) → Unopened by_value x → program.Meets (our_program x)
 program_meets x u = record {
   none = λ κs a y. ap session_told u.1;
@@ -135,7 +139,7 @@ module _ (m : Machine Session Verdict) (met : program.Meets m) where
       (subst FitsWords (sym e) fits, e)
 
   program_same : (x : Session) → FitsWords x → (k : Call) → Lends k → call m x k ≡ call ours x k
-  unfolding lent
+  unfolding lent lent_mut
   program_same x f (opening s choice) b =
       ap {B = Reply Session Verdict} (λ (a : Answer). record { told = a.verdict; state = a.session; out = [] })
       (answer_one _ (open_of x s choice) (met.opens ([], tt) (x, (lent s, (choice, tt))) (x, (lent s, (choice, tt))) f b))
@@ -143,8 +147,8 @@ module _ (m : Machine Session Verdict) (met : program.Meets m) where
       let r = m.samples x l in
       ap {B = Reply Session Verdict} (λ (a : Answer × List ℕ). record { told = a.0.verdict; state = a.0.session; out = a.1 })
       (call_one _ (sample_call x l.sample l.profile l.targets l.out)
-      (met.samples ([], ([], ([], ([], tt)))) (x, (lent l.sample, (lent l.profile, (lent l.targets, (lent l.out, tt)))))
-      (x, (lent l.sample, (lent l.profile, (lent l.targets, (lent r.out, tt))))) f b refl))
+      (met.samples ([], ([], ([], ([], tt)))) (x, (lent l.sample, (lent l.profile, (lent l.targets, (lent_mut l.out, tt)))))
+      (x, (lent l.sample, (lent l.profile, (lent l.targets, (lent_mut r.out, tt))))) f b refl))
 
   pub program_does : Does by_value m
   program_does z x o k b =
@@ -189,18 +193,18 @@ library_meets z u = record {
 module _ (m : Machine (List ℕ) ℕ) (met : library.Meets m) where
   -- it replies as ours, however short the session's bytes
   library_same : (z : List ℕ) → Slice z → (k : Call) → Lends k → call m z k ≡ call (our_library z) z k
-  unfolding lent
+  unfolding lent lent_mut
   library_same z f (opening s FiveSeconds) b =
       ap {B = Reply (List ℕ) ℕ} (λ (r : ℕ × List ℕ). record { told = r.0; state = r.1; out = [] })
-      (met.opens ([], ([], tt)) (lent z, (lent s, tt)) (lent (m.opens z s FiveSeconds).1, (lent s, tt)) f b refl)
+      (met.opens ([], ([], tt)) (lent_mut z, (lent s, tt)) (lent_mut (m.opens z s FiveSeconds).1, (lent s, tt)) f b refl)
   library_same z f (opening s Everlasting) b =
       ap {B = Reply (List ℕ) ℕ} (λ (r : ℕ × List ℕ). record { told = r.0; state = r.1; out = [] })
-      (met.opens_with ([], ([], tt)) (lent z, (lent s, (1, tt))) (lent (m.opens z s Everlasting).1, (lent s, (1, tt))) f b (omega arith) refl)
+      (met.opens_with ([], ([], tt)) (lent_mut z, (lent s, (1, tt))) (lent_mut (m.opens z s Everlasting).1, (lent s, (1, tt))) f b (omega arith) refl)
   library_same z f (sampling l) b =
       let r = m.samples z l in
       ap {B = Reply (List ℕ) ℕ} (λ (r : Sampled). record { told = r.0; state = r.1; out = r.2 })
-      (met.samples ([], ([], ([], ([], ([], tt))))) (lent z, (lent l.sample, (lent l.profile, (lent l.targets, (lent l.out, tt)))))
-      (lent r.state, (lent l.sample, (lent l.profile, (lent l.targets, (lent r.out, tt))))) f b refl refl)
+      (met.samples ([], ([], ([], ([], ([], tt))))) (lent_mut z, (lent l.sample, (lent l.profile, (lent l.targets, (lent_mut l.out, tt)))))
+      (lent_mut r.state, (lent l.sample, (lent l.profile, (lent l.targets, (lent_mut r.out, tt))))) f b refl refl)
 
 module _ (z : List ℕ) where
   -- a verdict leaves in the bytes what it does where the session is put in

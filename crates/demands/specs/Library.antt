@@ -13,9 +13,12 @@ use Rattle.session.specs.Session.{is_open}
 use Rattle.sampling.specs.Laws.{Lent}
 use Rattle.held.specs.Held.{most, record_at, bytes_of, read_session}
 use Rattle.lent.specs.Lent.{buffer_of, open_bytes, sample_bytes}
-use Rattle.buongilach.proofs.buongilach_open as open_call
-use Rattle.buongilach.proofs.buongilach_open_with as open_with_call
-use Rattle.buongilach.proofs.buongilach_sample as sample_call
+use Rattle.buongilach.specs.contracts.buongilach_open as open_call
+use Rattle.buongilach.proofs.buongilach_open.Reads as open_reads
+use Rattle.buongilach.specs.contracts.buongilach_open_with as open_with_call
+use Rattle.buongilach.proofs.buongilach_open_with.Reads as open_with_reads
+use Rattle.buongilach.specs.contracts.buongilach_sample as sample_call
+use Rattle.buongilach.proofs.buongilach_sample.Reads as sample_reads
 use Rattle.demands.specs.Machine.{Slice, Lends, sampling, Machine, call, Holding, Unopened}
 
 -- ---- a state is bytes that begin with the session's buffer, and a verdict is told as its number
@@ -41,16 +44,16 @@ pub record Meets (m : Machine (List ℕ) ℕ) : Type 0 where
   pub none : Unopened in_bytes m.none
   pub opens : (κs : Lfts 2) (a : ArgsD open_call.signature κs) (x : AtExit open_call.ended κs) → Slice a.0.now → Slice a.1.0.now →
       let r = m.opens a.0.now a.1.0.now FiveSeconds in
-      x.0.now ≡ r.1 → open_call.Reads.Post κs a r.0 x
+      x.0.now ≡ r.1 → open_reads.Post κs a r.0 x
   pub opens_with : (κs : Lfts 2) (a : ArgsD open_with_call.signature κs) (x : AtExit open_with_call.ended κs) →
       let everlasting : ℕ = a.1.1.0 in
       Slice a.0.now → Slice a.1.0.now → everlasting < 2 ^ 32 →
       let r = m.opens a.0.now a.1.0.now (choice_of everlasting) in
-      x.0.now ≡ r.1 → open_with_call.Reads.Post κs a r.0 x
+      x.0.now ≡ r.1 → open_with_reads.Post κs a r.0 x
   pub samples : (κs : Lfts 5) (a : ArgsD sample_call.signature κs) (x : AtExit sample_call.ended κs) → Slice a.0.now → Lends (sampling (lent_to κs a)) →
       let r = m.samples a.0.now (lent_to κs a) in
       let (session, (_, (_, (_, (out, _))))) = x in
-      session.now ≡ r.state → out.now ≡ r.out → sample_call.Reads.Post κs a r.told x
+      session.now ≡ r.state → out.now ≡ r.out → sample_reads.Post κs a r.told x
 
 -- one that meets them, from these bytes on
 abbrev pub our_library : List ℕ → Machine (List ℕ) ℕ

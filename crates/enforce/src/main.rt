@@ -28,7 +28,8 @@ fn is_last<E: Env>(words: &E) -> bool {
     matches!(words.arg(2, &mut []), Err(FillError::NotPresent))
 }
 
-// Runs the feed where no word is wrong; else that is said, and nothing is read.
+// Runs the feed where no word is wrong; else that is said, and nothing is read. It ends with status 0 either way: `./run`, which
+// knows the words too, gives another.
 fn main(rt: HostRuntime) {
     match choice(&rt) {
         Some(choice) => feed::run(&mut rt.stdin(), &mut rt.stdout(), choice),

@@ -3,8 +3,12 @@
 #![tactic(auto)]
 
 use brake::Choice;
+use std::env::{Env, FillError};
 use std::fs::File;
-use std::{env, io};
+use std::io;
+
+// Bytes that hold any path.
+const NAME_ROOM: usize = 4_096;
 
 fn print_name(rt: &HostRuntime, name: &str) -> io::Result<()> {
     println!(rt; "== {name}")
@@ -22,14 +26,27 @@ fn run_feed(rt: &HostRuntime, name: &str, choice: Choice) -> io::Result<()> {
     }
 }
 
+// Takes an argument, and answers the choice from then on.
+fn run_one(rt: &HostRuntime, name: &[u8], choice: Choice) -> io::Result<Choice> {
+    if opening::is_everlasting(name) {
+        print_name(rt, "everlasting")?;
+        return Ok(Choice::Everlasting);
+    }
+    match str::from_utf8(name) {
+        Ok(name) => run_feed(rt, name, choice)?,
+        Err(_) => eprintln!(rt; "an argument is no UTF-8, as a path has to be")?,
+    }
+    Ok(choice)
+}
+
 fn main(rt: HostRuntime) -> io::Result<()> {
     let mut choice = Choice::FiveSeconds;
-    for name in env::args(&rt)?.skip(1) {
-        if opening::is_everlasting(name.as_bytes()) {
-            print_name(&rt, name.as_str())?;
-            choice = Choice::Everlasting;
-        } else {
-            run_feed(&rt, name.as_str(), choice)?;
+    let mut name = [0u8; NAME_ROOM];
+    for i in 1..usize::MAX {
+        match rt.arg(i, &mut name) {
+            Ok(n) => choice = run_one(&rt, &name[..n], choice)?,
+            Err(FillError::TooLong) => eprintln!(rt; "an argument is longer than a path")?,
+            Err(FillError::NotPresent) => break,
         }
     }
     Ok(())

@@ -142,5 +142,6 @@ pub cause_stands : CauseStands
 unfolding CauseStands after_samples sample_call
 cause_stands e x [] h = refl
 cause_stands e x (l ∷ ls) h =
-    let kept = cause_kept e x (lowest (rules x l.sample l.profile l.targets l.out)) l.sample l.profile l.targets h in
-    cause_stands e _ ls (subst (λ (n : ℕ). 0 < n) (sym kept) h) ∙ kept
+    let v = lowest (rules x l.sample l.profile l.targets l.out) in
+    let held = cause_kept e x v l.sample l.profile l.targets h in
+    cause_stands e (kept v (session_after x (sample_in l.sample) l.profile l.targets) x) ls (subst (λ (n : ℕ). 0 < n) (sym held) h) ∙ held

@@ -9,11 +9,11 @@ use borrow.Author.Rules.{rules}
 use Rattle.admission.proofs.last_start.Statement.{statement}
 use Rattle.admission.proofs.last_start.Tie as tie
 
-last_is : (c : tie.Joined1) → c.if1.new ≡ count c.before.before.args.p.now - 1
-last_is c = ⊎_elim (λ w. omega arith) (λ w. omega arith) c.if1.branch
+last_is : (c : tie.Joined-n-eq0) → c.if-n-eq0.last ≡ count c.args.p.now - 1
+last_is c = ⊎_elim (λ w. omega arith) (λ w. omega arith) c.if-n-eq0.branch-raw
 
 returns : tie.Need-returns
-returns c = ap (λ (g : Segment). g.start) (c.segment-at.ensures ∙ ap (segment_at c.before.before.before.args.p.now) (last_is c.before))
+returns c = ap (λ (g : Segment). g.start) (c.segment_at.ensures ∙ ap (segment_at c.args.p.now) (last_is c.before))
 
 pub last_start_spec : {M : Type 1} → statement M
 last_start_spec = tie.close (tie.spec (λ c. search rules) (λ c κs. search rules) returns)

@@ -10,15 +10,15 @@ use Rattle.air.proofs.fall_emergency.Tie as tie
 above-requires : tie.Need-above-requires
 above-requires c κs = search rules
 
-ceil-div-requires : tie.Need-ceil-div-requires
+ceil-div-requires : tie.Need-ceil_div-requires
 ceil-div-requires c κs = search rules
 
-cast-result : tie.Need-overflow-cast-result
+cast-result : tie.Need-overflow_cast-result
 unfolding ceil_div
-cast-result c = omega (arith, c.ceil-div.ensures, c.before.above.ensures)
+cast-result c = omega (arith, c.ceil_div.ensures, c.above.ensures)
 
 returns : tie.Need-returns
-returns c = c.ceil-div.ensures ∙ ap (λ (n : ℕ). ceil_div n 10) c.before.above.ensures
+returns c = c.ceil_div.ensures ∙ ap (λ (n : ℕ). ceil_div n 10) c.above.ensures
 
 pub fall_emergency_spec : {M : Type 1} → statement M
 fall_emergency_spec =

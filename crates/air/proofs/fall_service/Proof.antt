@@ -5,20 +5,20 @@ use borrow.Author.Rules.{rules}
 use Rattle.air.proofs.fall_service.Statement.{statement}
 use Rattle.air.proofs.fall_service.Tie as tie
 
-cast-result : tie.Need-overflow-cast-result
+cast-result : tie.Need-overflow_cast-result
 cast-result c = search rules
 
-mul-result : tie.Need-overflow-mul-result
+mul-result : tie.Need-overflow_mul-result
 mul-result c = search rules
 
-mul-result-2 : tie.Need-overflow-mul-result-2
+mul-result-2 : tie.Need-overflow_mul-result-2
 mul-result-2 c = search rules
 
-div-result : tie.Need-nonzero-div-result
+div-result : tie.Need-nonzero_div-result
 div-result c = search rules
 
-cast-result-2 : tie.Need-overflow-cast-result-2
-cast-result-2 c = omega (arith, service_fall_most c.before.before.args.c c.before.before.requires)
+cast-result-2 : tie.Need-overflow_cast-result-2
+cast-result-2 c = omega (arith, service_fall_most c.args.c c.requires)
 
 returns : tie.Need-returns
 returns c = search rules

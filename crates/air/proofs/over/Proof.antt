@@ -11,7 +11,7 @@ most c =
     let seconds : c.args.seconds ≤ 4294967295 = omega arith in
     mul-le-mul change seconds
 
-mul-result : tie.Need-overflow-mul-result
+mul-result : tie.Need-overflow_mul-result
 mul-result c = omega (arith, most c)
 
 returns : tie.Need-returns

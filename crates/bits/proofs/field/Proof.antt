@@ -9,23 +9,23 @@ use borrow.Author.Rules.{rules}
 use Rattle.bits.proofs.field.Statement.{statement}
 use Rattle.bits.proofs.field.Tie as tie
 
-returns : tie.Need-returns
+returns : tie.Need-returns-then-width-gt56
 unfolding field_at
-returns c = let a = c.before.before.args in rw (too_wide a.s.now a.first a.width c.if1.true) (refl, pow_pos a.width)
+returns c = let a = c.args in rw (too_wide a.s.now a.first a.width c.if-width-gt56.true) (refl, pow_pos a.width)
 
-returns-2 : tie.Need-returns-2
+returns-2 : tie.Need-returns-then-s-end
 unfolding field_at
 returns-2 c =
-    let a = c.before.before.before.args in
+    let a = c.args in
     rw (past_end a.s.now a.first a.width (omega arith) (omega arith)) (refl, pow_pos a.width)
 
-rem-result : tie.Need-nonzero-rem-result
-rem-result c = let w = c.before.before.before.before.before.args.width in rw (one_shl w (omega arith)) (pow_pos w)
+rem-result : tie.Need-nonzero_rem-result
+rem-result c = let w = c.args.width in rw (one_shl w (omega arith)) (pow_pos w)
 
-returns-3 : tie.Need-returns-3
+returns-3 : tie.Need-returns
 returns-3 c =
-    let a = c.before.before.before.before.before.args in (
-      read_place a.s.now a.first a.width (λ i. (c.before.before.before.before.shared-slice-known.given i).fits) (omega arith) (omega arith) _ c.word.ensures,
+    let a = c.args in (
+      read_place a.s.now a.first a.width (λ i. (c.shared_slice_known-1.given i).fits) (omega arith) (omega arith) _ c.word.ensures,
       rw (one_shl a.width (omega arith)) (mod-lt _ (pow_pos a.width)),
     )
 

@@ -11,24 +11,24 @@ use Rattle.blocks.specs.Steps.{blocks_of}
 use Rattle.blocks.proofs.each_right.Statement.{statement}
 use Rattle.blocks.proofs.each_right.Tie as tie
 
-abbrev invariant-loop : tie.invariant-loop
+abbrev invariant-loop : tie.invariant-loop-k
 invariant-loop count lengths weights right₀ k₀ right k = (k ≤ most) × (right ≡ every k (place_right (blocks_of count lengths weights)))
 
-abbrev decreases-loop : tie.decreases-loop
+abbrev decreases-loop : tie.decreases-loop-k
 decreases-loop count lengths weights right₀ k₀ right k = most - k
 
-loop_again : tie.Need-loop-preserved invariant-loop decreases-loop
+loop_again : tie.Need-loop-k-preserved invariant-loop decreases-loop
 unfolding place_right
 loop_again c =
-    let l = c.before.before.before.before.loop in
-    (omega arith, rw (add-one l.k) (ap₂ ◌&&◌ l.invariant.1 c.place-right.ensures))
+    let l = c.loop-k in
+    (omega arith, rw (add-one l.k) (ap₂ ◌&&◌ l.invariant.1 c.place_right-right.ensures))
 
 returns : tie.Need-returns invariant-loop decreases-loop
 unfolding each_right
 returns c =
-    let l = c.before.loop in
-    let a = c.before.before.args in
-    l.invariant.1 ∙ ap (λ (n : ℕ). every n (place_right (blocks_of a.count a.lengths.now a.weights.now))) (le_antisymm l.invariant.0 c.loop-test.false)
+    let l = c.loop-k in
+    let a = c.args in
+    l.invariant.1 ∙ ap (λ (n : ℕ). every n (place_right (blocks_of a.count a.lengths.now a.weights.now))) (le_antisymm l.invariant.0 c.loop-k-test.false)
 
 pub each_right_spec : {M : Type 1} → statement M
 each_right_spec =

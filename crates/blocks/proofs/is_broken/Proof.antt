@@ -10,8 +10,8 @@ use Rattle.blocks.proofs.is_broken.Tie as tie
 returns : tie.Need-returns
 unfolding is_broken
 returns c =
-    let a = c.before.before.before.before.args in
-    ap not (ap₂ ◌&&◌ c.before.before.is-laid-out.ensures (c.is-sound.ensures ∙ ap (λ (b : Blocks). is_sound b a.length a.weight) c.before.laid.ensures))
+    let a = c.args in
+    ap not (ap₂ ◌&&◌ c.is_laid_out-laid_out.ensures (c.is_sound.ensures ∙ ap (λ (b : Blocks). is_sound b a.length a.weight) c.laid-b.ensures))
 
 pub is_broken_spec : {M : Type 1} → statement M
 is_broken_spec = tie.close (tie.spec (λ c κs. search rules) (λ c κs. search rules) (λ c κs. search rules) returns)

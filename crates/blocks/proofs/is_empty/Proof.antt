@@ -11,24 +11,24 @@ use Rattle.blocks.specs.Steps.{empty_at, empty}
 use Rattle.blocks.proofs.is_empty.Statement.{statement}
 use Rattle.blocks.proofs.is_empty.Tie as tie
 
-abbrev invariant-loop : tie.invariant-loop
+abbrev invariant-loop : tie.invariant-loop-k
 invariant-loop lengths weights right₀ k₀ right k = (k ≤ most) × (right ≡ every k (empty_at lengths weights))
 
-abbrev decreases-loop : tie.decreases-loop
+abbrev decreases-loop : tie.decreases-loop-k
 decreases-loop lengths weights right₀ k₀ right k = most - k
 
-loop_again : tie.Need-loop-preserved invariant-loop decreases-loop
+loop_again : tie.Need-loop-k-preserved invariant-loop decreases-loop
 loop_again c =
-    let l = c.before.before.before.loop in
-    let a = c.before.before.before.before.args in
+    let l = c.loop-k in
+    let a = c.args in
     (omega arith, rw (add-one l.k) (ap (λ (b : Bool). b && empty_at a.lengths.now a.weights.now l.k) l.invariant.1))
 
 returns : tie.Need-returns invariant-loop decreases-loop
 unfolding empty
 returns c =
-    let l = c.before.loop in
-    let a = c.before.before.args in
-    l.invariant.1 ∙ ap (λ (n : ℕ). every n (empty_at a.lengths.now a.weights.now)) (le_antisymm l.invariant.0 c.loop-test.false)
+    let l = c.loop-k in
+    let a = c.args in
+    l.invariant.1 ∙ ap (λ (n : ℕ). every n (empty_at a.lengths.now a.weights.now)) (le_antisymm l.invariant.0 c.loop-k-test.false)
 
 pub is_empty_spec : {M : Type 1} → statement M
 is_empty_spec =

@@ -23,32 +23,32 @@ by_count : (s : List ℕ) (b : Bool) → counted s ≡ b → is_laid_out s ≡ b
 unfolding is_laid_out
 by_count s b h = ap (λ (x : Bool). x && every (count s) (spare_zero s)) h
 
-abbrev invariant-loop : tie.invariant-loop
+abbrev invariant-loop : tie.invariant-loop-k
 invariant-loop s n clean₀ k₀ clean k = (k ≤ n) × (clean ≡ every k (spare_zero s))
 
-abbrev decreases-loop : tie.decreases-loop
+abbrev decreases-loop : tie.decreases-loop-k
 decreases-loop s n clean₀ k₀ clean k = n - k
 
-returns : tie.Need-returns invariant-loop decreases-loop
+returns : tie.Need-returns-then-not-s-n invariant-loop decreases-loop
 returns c =
-    let s = c.before.before.args.s.now in
-    sym (by_count s false (not-true (counted s) c.if1.true))
+    let s = c.args.s.now in
+    sym (by_count s false (c.if-not-s-n.true))
 
-loop_again : tie.Need-loop-preserved invariant-loop decreases-loop
+loop_again : tie.Need-loop-k-preserved invariant-loop decreases-loop
 unfolding spare_zero
 loop_again c =
-    let l = c.before.before.before.loop in
-    let spare = c.spare-in.ensures ∙ ap (λ (x : ℕ). field_in x 2) c.before.word_at.ensures in
-    (omega (arith, c.before.before.loop-test.true), rw (add-one l.k) (ap₂ ◌&&◌ l.invariant.1 (ap (λ (n : ℕ). eqb n 0) spare)))
+    let l = c.loop-k in
+    let spare = c.spare_in.ensures ∙ ap (λ (x : ℕ). field_in x 2) c.word_at.ensures in
+    (omega (arith, c.loop-k-test.true), rw (add-one l.k) (ap₂ ◌&&◌ l.invariant.1 (ap (λ (n : ℕ). eqb n 0) spare)))
 
-returns-2 : tie.Need-returns-2 invariant-loop decreases-loop
+returns-2 : tie.Need-returns invariant-loop decreases-loop
 returns-2 c =
     let number = c.before.before in
-    let s = number.before.before.args.s.now in
-    let l = c.before.loop in
+    let s = number.args.s.now in
+    let l = c.loop-k in
     l.invariant.1
-    ∙ ap (λ (n : ℕ). every n (spare_zero s)) (le_antisymm l.invariant.0 c.loop-test.false)
-    ∙ sym (by_count s true (not-false (counted s) number.if1.false))
+    ∙ ap (λ (n : ℕ). every n (spare_zero s)) (le_antisymm l.invariant.0 c.loop-k-test.false)
+    ∙ sym (by_count s true (number.if-not-s-n.false))
 
 pub is_laid_out_spec : {M : Type 1} → statement M
 is_laid_out_spec =

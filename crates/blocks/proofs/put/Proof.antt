@@ -11,27 +11,27 @@ use Rattle.blocks.proofs.Putting.{Put, put_none, put_next}
 use Rattle.blocks.proofs.put.Statement.{statement}
 use Rattle.blocks.proofs.put.Tie as tie
 
-abbrev invariant-loop : tie.invariant-loop
+abbrev invariant-loop : tie.invariant-loop-k
 invariant-loop out₀ b count k₀ out k = (k ≤ count) × Put b out₀ k out
 
-abbrev decreases-loop : tie.decreases-loop
+abbrev decreases-loop : tie.decreases-loop-k
 decreases-loop out₀ b count k₀ out k = count - k
 
-loop_again : tie.Need-loop-preserved invariant-loop decreases-loop
+loop_again : tie.Need-loop-k-preserved invariant-loop decreases-loop
 loop_again c =
     let turn = c.before.before.before.before.before.before.before.before in
-    let l = turn.loop in
-    let a = turn.before.before.args in
+    let l = turn.loop-k in
+    let a = turn.args in
     let room : size * (l.k + 1) ≤ length a.out.now = omega arith in
     let m : size * l.k + size - size * l.k ≡ size = omega arith in
-    (omega arith, put_next a.t1 a.out.now l.k l.out l.invariant.1 room _ _ _ m c.before.before.before.before.word_of.ensures c.before.before.put_word.ensures)
+    (omega arith, put_next a.b a.out.now l.k l.out l.invariant.1 room _ _ _ m c.word_of-x.ensures c.put_word.ensures)
 
 returns : tie.Need-returns invariant-loop decreases-loop
 unfolding bytes_of
 returns c =
-    let l = c.before.loop in
-    let a = c.before.before.before.args in
-    l.invariant.1.so_far ∙ ap (λ (k : ℕ). bytes_to a.t1 k ++ drop (size * k) a.out.now) (le_antisymm l.invariant.0 c.loop-test.false)
+    let l = c.loop-k in
+    let a = c.args in
+    l.invariant.1.so_far ∙ ap (λ (k : ℕ). bytes_to a.b k ++ drop (size * k) a.out.now) (le_antisymm l.invariant.0 c.loop-k-test.false)
 
 pub put_spec : {M : Type 1} → statement M
 put_spec =
@@ -55,5 +55,5 @@ put_spec =
     (λ c. omega arith)
     (λ c. omega arith)
     loop_again
-    (λ c. c.before.loop.invariant.1.long)
+    (λ c. c.loop-k.invariant.1.long)
     returns)

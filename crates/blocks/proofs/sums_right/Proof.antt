@@ -11,8 +11,8 @@ use Rattle.blocks.proofs.sums_right.Tie as tie
 returns : tie.Need-returns
 unfolding sums_right
 returns c =
-    let a = c.before.before.args in
-    ap₂ (λ (l w : ℕ). eqb l a.length && eqb w a.weight) c.before.sum_of.ensures c.sum-of2.ensures
+    let a = c.args in
+    ap₂ (λ (l w : ℕ). eqb l a.length && eqb w a.weight) c.sum_of.ensures c.sum_of-2.ensures
 
 pub sums_right_spec : {M : Type 1} → statement M
 sums_right_spec = tie.close (tie.spec (λ c κs. search rules) (λ c κs. search rules) returns)

@@ -6,11 +6,11 @@ use borrow.Author.Rules.{rules}
 use Rattle.brake.proofs.heard_number.Statement.{statement}
 use Rattle.brake.proofs.heard_number.Tie as tie
 
-returns : tie.Need-returns
-returns c = ap heard_number (sym c.enum_told.given.1)
+returns : tie.Need-returns-in-Never
+returns c = ap heard_number (sym c.in-Never.is)
 
-returns-2 : tie.Need-returns-2
-returns-2 c = rw c.before.heard.given.1 (omega arith)
+returns-2 : tie.Need-returns-in-At
+returns-2 c = rw c.in-At.is (omega arith)
 
 pub heard_number_spec : {M : Type 1} → statement M
 heard_number_spec = tie.close (tie.spec (λ c. search rules) (λ c. search rules) (λ c. search rules) (λ c. search rules) returns returns-2)

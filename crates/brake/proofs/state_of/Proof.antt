@@ -8,10 +8,10 @@ use borrow.Author.Rules.{rules}
 use Rattle.brake.proofs.state_of.Statement.{statement}
 use Rattle.brake.proofs.state_of.Tie as tie
 
-returns-6 : tie.Need-returns-6
+returns-6 : tie.Need-returns-in_default
 returns-6 c =
-    let r = c.match.rest in
-    sym (get_or-eq_default (Charged ∷ ApplyingService ∷ HoldingService ∷ ApplyingEmergency ∷ HoldingEmergency ∷ []) Charging {n = c.before.args.n} (omega (arith, r.1, r.0.1, r.0.0.1, r.0.0.0.1, r.0.0.0.0.1)))
+    let r = c.in_default.in_default-own.rest in
+    sym (get_or-eq_default (Charged ∷ ApplyingService ∷ HoldingService ∷ ApplyingEmergency ∷ HoldingEmergency ∷ []) Charging {n = c.args.n} (omega (arith, r.1, r.0.1, r.0.0.1, r.0.0.0.1, r.0.0.0.0.1)))
 
 pub state_of_spec : {M : Type 1} → statement M
 state_of_spec = tie.close (tie.spec (λ c. search rules) (λ c. search rules) (λ c. search rules) (λ c. search rules) (λ c. search rules) returns-6)

@@ -10,8 +10,8 @@ returns : tie.Need-returns
 returns c =
     let opened = c.before.before in
     let chosen = opened.before.before in
-    let a = chosen.before.before.before.args in
-    opened.«open».ensures ∙ ap (λ (choice : Choice). open_bytes a.consist.now a.session.now choice) chosen.choice-of.ensures
+    let a = chosen.args in
+    opened.open.ensures ∙ ap (λ (choice : Choice). open_bytes a.consist.now a.session.now choice) chosen.choice_of-choice.ensures
 
 pub buongilach_open_with_spec : {M : Type 1} → statement M
 buongilach_open_with_spec = tie.close (tie.spec (λ c κs. search rules) (λ c κs. search rules) (λ c. search rules) returns)

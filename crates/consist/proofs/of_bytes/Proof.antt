@@ -10,18 +10,18 @@ returns : tie.Need-returns
 returns c =
     let five = c.before.before.before.before in
     rw (
-      five.before.before.before.before.before.none.ensures,
-      five.before.before.before.before.field.ensures.0,
-      five.before.before.before.field2.ensures.0,
-      five.before.before.field3.ensures.0,
-      five.before.field4.ensures.0,
-      five.field5.ensures.0,
-      c.before.before.before.field6.ensures.0,
-      c.before.before.field7.ensures.0,
-      c.before.field8.ensures.0,
-      c.field9.ensures.0,
+      five.none-blocks.ensures,
+      five.field.ensures.0,
+      five.field-2.ensures.0,
+      five.field-3.ensures.0,
+      five.field-4.ensures.0,
+      five.field-5.ensures.0,
+      c.field-6.ensures.0,
+      c.field-7.ensures.0,
+      c.field-8.ensures.0,
+      c.field-9.ensures.0,
     )
-    (refl {a = of_fields (fields_from 0 widths five.before.before.before.before.before.before.before.args.s.now)})
+    (refl {a = of_fields (fields_from 0 widths five.args.s.now)})
 
 pub of_bytes_spec : {M : Type 1} → statement M
 of_bytes_spec =

@@ -5,7 +5,7 @@ use Rattle.consist.proofs.refused.Statement.{statement}
 use Rattle.consist.proofs.refused.Tie as tie
 
 returns : tie.Need-returns
-returns c = rw c.none.ensures
+returns c = rw c.none-blocks.ensures
 
 pub refused_spec : {M : Type 1} → statement M
 refused_spec = tie.close (tie.spec (λ c κs. search rules) returns)

@@ -6,7 +6,7 @@ use Rattle.consist.proofs.sound_blocks.Tie as tie
 
 returns : tie.Need-returns
 unfolding sound_blocks
-returns c = c.is-sound.ensures
+returns c = c.is_sound.ensures
 
 pub sound_blocks_spec : {M : Type 1} → statement M
 sound_blocks_spec = tie.close (tie.spec (λ c κs. search rules) returns)

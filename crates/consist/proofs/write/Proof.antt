@@ -24,111 +24,111 @@ use Rattle.consist.proofs.write.Statement.{statement}
 use Rattle.consist.proofs.write.Tie as tie
 
 -- the code's points, from the first on: at the start, past the ranges, past the weight, past the room, past the blocks
-abbrev begun : tie.After-enum-told → tie.After-slice-known
-begun c = c.before.before.before.before
+abbrev begun : tie.In-On → tie.After-slice_known-1
+begun c = c.before.before.before
 
-abbrev ranged : tie.After-enum-told3 → tie.After-enum-told
-ranged c = c.before.before.before.before
+abbrev ranged : tie.In-On-unless → tie.In-On
+ranged c = c.before.before.before
 
-abbrev weighed : tie.After-enum-told5 → tie.After-enum-told3
-weighed c = c.before.before.before.before
+abbrev weighed : tie.In-On-unless-2 → tie.In-On-unless
+weighed c = c.before.before.before
 
-abbrev roomy : tie.After-enum-told7 → tie.After-enum-told5
-roomy c = c.before.before.before.before
+abbrev roomy : tie.In-On-unless-3 → tie.In-On-unless-2
+roomy c = c.before.before.before
 
-abbrev judged : tie.After-put-back → tie.After-enum-told7
+abbrev judged : tie.After-put_back → tie.In-On-unless-3
 judged c = c.before.before.before.before.before.before
 
 -- the consist, and the bytes that are lent
-abbrev given : tie.After-enum-told3 → Consist
-given c = (begun (ranged c)).before.args.c
+abbrev given : tie.In-On-unless → Consist
+given c = (begun (ranged c)).args.c
 
-abbrev lent : tie.After-enum-told3 → List ℕ
-lent c = (begun (ranged c)).before.args.out.now
+abbrev lent : tie.In-On-unless → List ℕ
+lent c = (begun (ranged c)).args.out.now
 
-past_range : (c : tie.After-enum-told) → out_of_range (begun c).before.args.c ≡ false
-past_range c = sym (ap not c.before.before.before.in-range.ensures) ∙ on_unless _ (sym c.enum_told.given.1 ∙ c.before.before.unless.ensures)
+past_range : (c : tie.In-On) → out_of_range (begun c).args.c ≡ false
+past_range c = sym (ap not c.in_range.ensures) ∙ on_unless _ (sym c.in-On.is ∙ c.unless.ensures)
 
-past_weight : (c : tie.After-enum-told3) → too_light (given c) ≡ false
-past_weight c = sym c.before.before.before.too-light.ensures ∙ on_unless _ (sym c.enum-told3.given.1 ∙ c.before.before.unless2.ensures)
+past_weight : (c : tie.In-On-unless) → too_light (given c) ≡ false
+past_weight c = sym c.too_light.ensures ∙ on_unless _ (sym c.in-On-unless.is ∙ c.unless-2.ensures)
 
 room_is : (c : tie.After-size) → ltb (length (lent c.before)) c.size.result ≡ no_room (size_of (given c.before)) (lent c.before)
 unfolding no_room
 room_is c = ap (ltb (length (lent c.before))) c.size.ensures
 
-past_room : (c : tie.After-enum-told5) → no_room (size_of (given (weighed c))) (lent (weighed c)) ≡ false
-past_room c = sym (room_is c.before.before.before) ∙ on_unless _ (sym c.enum-told5.given.1 ∙ c.before.before.unless3.ensures)
+past_room : (c : tie.In-On-unless-2) → no_room (size_of (given (weighed c))) (lent (weighed c)) ≡ false
+past_room c = sym (room_is c.before.before) ∙ on_unless _ (sym c.in-On-unless-2.is ∙ c.unless-3.ensures)
 
-past_blocks : (c : tie.After-enum-told7) → sound_blocks (given (weighed (roomy c))) ≡ true
+past_blocks : (c : tie.In-On-unless-3) → sound_blocks (given (weighed (roomy c))) ≡ true
 past_blocks c =
-    sym c.before.before.before.sound-blocks.ensures ∙ not-false _ (on_unless _ (sym c.enum-told7.given.1 ∙ c.before.before.unless4.ensures))
+    sym c.sound_blocks.ensures ∙ not-false _ (on_unless _ (sym c.in-On-unless-3.is ∙ c.unless-4.ensures))
 
 -- ---- past every rule
 
 -- what the front leaves of the bytes that are lent
-abbrev fronted : tie.After-put-back → List ℕ
-fronted c = c.put_back.new.1.0
+abbrev fronted : tie.After-put_back → List ℕ
+fronted c = c.put_back.new.out
 
-abbrev past : tie.After-put-back → tie.After-enum-told3
+abbrev past : tie.After-put_back → tie.In-On-unless
 past c = weighed (roomy (judged c))
 
-room : (c : tie.After-put-back) → size_of (given (past c)) ≤ length (lent (past c))
+room : (c : tie.After-put_back) → size_of (given (past c)) ≤ length (lent (past c))
 unfolding no_room
 room c = ltb-false _ _ (past_room (roomy (judged c)))
 
-front_put : (c : tie.After-put-back) → fronted c ≡ front_of (given (past c)) ++ drop size (lent (past c))
+front_put : (c : tie.After-put_back) → fronted c ≡ front_of (given (past c)) ++ drop size (lent (past c))
 unfolding front_of
 front_put c =
     let x = given (past c) in
     c.put_back.ensures
-    ∙ ap (put_from 74 (drop 5 widths) (drop 5 (fields_of x))) c.before.before.before.before.put_front.ensures
-    ∙ put_all size widths (fields_of x) (lent (past c)) tt refl (fits x (past_range (ranged (past c)))) (λ i. ((begun (ranged (past c))).slice-known.given i).fits) (omega (arith, room c))
+    ∙ ap (put_from 74 (drop 5 widths) (drop 5 (fields_of x))) c.put_front.ensures
+    ∙ put_all size widths (fields_of x) (lent (past c)) tt refl (fits x (past_range (ranged (past c)))) (λ i. ((begun (ranged (past c))).slice_known-1.given i).fits) (omega (arith, room c))
 
-kept : (c : tie.After-put-back) → length (fronted c) ≡ length (lent (past c))
+kept : (c : tie.After-put_back) → length (fronted c) ≡ length (lent (past c))
 kept c = length_kept (given (past c)) (lent (past c)) (fronted c) (omega (arith, room c)) (front_put c)
 
-long : (c : tie.After-put-back) → size ≤ length (fronted c)
+long : (c : tie.After-put_back) → size ≤ length (fronted c)
 long c = omega (arith, room c, kept c)
 
-blocks_room : (c : tie.After-put-back) → blocks.size * (given (past c)).blocks.count ≤ length (take (length (fronted c) - size) (drop size (fronted c)))
+blocks_room : (c : tie.After-put_back) → blocks.size * (given (past c)).blocks.count ≤ length (take (length (fronted c) - size) (drop size (fronted c)))
 blocks_room c = simp (length-take, length-drop) (omega (arith, room c, kept c))
 
-few : (c : tie.After-put-back) → (given (past c)).blocks.count ≤ blocks.most
+few : (c : tie.After-put_back) → (given (past c)).blocks.count ≤ blocks.most
 unfolding sound_blocks
 few c = sound_few _ _ _ (past_blocks (judged c))
 
-returns : tie.Need-returns
+returns : tie.Need-returns-in_default
 returns c =
-    let r = sym (ap not c.before.before.before.in-range.ensures) ∙ off_unless _ (sym c.enum-told2.given.1 ∙ c.before.before.unless.ensures) in
+    let r = sym (ap not c.in_range.ensures) ∙ off_unless _ (sym c.in_default.is ∙ c.unless.ensures) in
     ap told (sym (write_is _ _ true _ _ _ r refl refl refl))
 
-returns-2 : tie.Need-returns-2
+returns-2 : tie.Need-returns-in_default-unless
 returns-2 c =
-    let w = sym c.before.before.before.too-light.ensures ∙ off_unless _ (sym c.enum-told4.given.1 ∙ c.before.before.unless2.ensures) in
-    ap told (sym (write_is _ _ false true _ _ (past_range c.before.before.before.before) w refl refl))
+    let w = sym c.too_light.ensures ∙ off_unless _ (sym c.in_default-unless.is ∙ c.unless-2.ensures) in
+    ap told (sym (write_is _ _ false true _ _ (past_range c.before.before.before) w refl refl))
 
-returns-3 : tie.Need-returns-3
+returns-3 : tie.Need-returns-in_default-unless-2
 returns-3 c =
-    let weight = c.before.before.before.before in
-    let o = sym (room_is c.before.before.before) ∙ off_unless _ (sym c.enum-told6.given.1 ∙ c.before.before.unless3.ensures) in
+    let weight = c.before.before.before in
+    let o = sym (room_is c.before.before) ∙ off_unless _ (sym c.in_default-unless-2.is ∙ c.unless-3.ensures) in
     ap told (sym (write_is _ (lent weight) false false true _ (past_range (ranged weight)) (past_weight weight) o refl))
 
-returns-4 : tie.Need-returns-4
+returns-4 : tie.Need-returns-in_default-unless-3
 returns-4 c =
     let broken = c in
-    let room = broken.before.before.before.before in
+    let room = broken.before.before.before in
     let weight = weighed room in
-    let b = sym (ap not broken.before.before.before.sound-blocks.ensures) ∙ off_unless _ (sym broken.enum-told8.given.1 ∙ broken.before.before.unless4.ensures) in
+    let b = sym (ap not broken.sound_blocks.ensures) ∙ off_unless _ (sym broken.in_default-unless-3.is ∙ broken.unless-4.ensures) in
     ap told (sym (write_is _ (lent weight) false false false true (past_range (ranged weight)) (past_weight weight) (past_room room) b))
 
-returns-5 : tie.Need-returns-5
+returns-5 : tie.Need-returns
 returns-5 c =
     let back = c.before.before.before.before.before.before.before in
     let weight = past back in
     let x = given weight in
     let out = lent weight in
     ap told
-    (ap (λ (l : List ℕ). (Accepted, l)) (written_all x out (fronted back) _ (front_put back) (kept back) c.before.before.put.ensures)
+    (ap (λ (l : List ℕ). (Accepted, l)) (written_all x out (fronted back) _ (front_put back) (kept back) c.put.ensures)
     ∙ sym (write_is x out false false false false (past_range (ranged weight)) (past_weight weight) (past_room (roomy (judged back))) (ap not (past_blocks (judged back)))))
 
 pub write_spec : {M : Type 1} → statement M

@@ -7,12 +7,12 @@ use Rattle.decision.proofs.of_bytes.Tie as tie
 returns : tie.Need-returns
 returns c =
     rw (
-      c.before.before.before.before.before.field.ensures.0,
-      c.before.before.before.before.field2.ensures.0,
-      c.before.before.before.field3.ensures.0,
-      c.before.before.field4.ensures.0,
-      c.before.field5.ensures.0,
-      c.field6.ensures.0,
+      c.field.ensures.0,
+      c.field-2.ensures.0,
+      c.field-3.ensures.0,
+      c.field-4.ensures.0,
+      c.field-5.ensures.0,
+      c.field-6.ensures.0,
     )
     refl
 

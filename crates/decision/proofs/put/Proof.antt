@@ -7,7 +7,7 @@ use Rattle.decision.proofs.put.Tie as tie
 returns : tie.Need-returns
 returns c =
     let marked = c.before.before.before.before.before.before.before.before.before.before.before in
-    rw (c.before.before.put-fields.ensures, marked.mark_of.ensures, same_bit marked.before.before.args.d.penalty)
+    rw (c.put_fields.ensures, marked.mark_of.ensures, same_bit marked.args.d.penalty)
 
 pub put_spec : {M : Type 1} → statement M
 put_spec =

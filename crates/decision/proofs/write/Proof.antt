@@ -16,36 +16,36 @@ use Rattle.decision.proofs.write.Statement.{statement}
 use Rattle.decision.proofs.write.Tie as tie
 
 -- at the start, and past the ranges
-abbrev begun : tie.After-enum-told → tie.After-slice-known
-begun c = c.before.before.before.before
+abbrev begun : tie.In-On → tie.After-slice_known-1
+begun c = c.before.before.before
 
-past_range : (c : tie.After-enum-told) → out_of_range (begun c).before.args.d ≡ false
-past_range c = sym c.before.before.before.out_of_range.ensures ∙ on_unless _ (sym c.enum_told.given.1 ∙ c.before.before.unless.ensures)
+past_range : (c : tie.In-On) → out_of_range (begun c).args.d ≡ false
+past_range c = sym c.out_of_range.ensures ∙ on_unless _ (sym c.in-On.is ∙ c.unless.ensures)
 
-returns : tie.Need-returns
+returns : tie.Need-returns-in_default
 returns c =
-    let r = sym c.before.before.before.out_of_range.ensures ∙ off_unless _ (sym c.enum-told2.given.1 ∙ c.before.before.unless.ensures) in
+    let r = sym c.out_of_range.ensures ∙ off_unless _ (sym c.in_default.is ∙ c.unless.ensures) in
     ap told (sym (write_is _ _ true _ r refl))
 
-returns-2 : tie.Need-returns-2
+returns-2 : tie.Need-returns-in_default-unless
 unfolding no_room
 returns-2 c =
-    ap told (sym (write_is _ _ false true (past_range c.before.before.before) (off_unless _ (sym c.enum-told4.given.1 ∙ c.before.before.unless2.ensures))))
+    ap told (sym (write_is _ _ false true (past_range c.before.before) (off_unless _ (sym c.in_default-unless.is ∙ c.unless-2.ensures))))
 
-returns-3 : tie.Need-returns-3
+returns-3 : tie.Need-returns
 unfolding no_room bytes_of
 returns-3 c =
     let room = c.before.before.before.before in
-    let range = room.before.before.before in
+    let range = room.before.before in
     let start = begun range in
-    let d = start.before.args.d in
-    let out = start.before.args.out.now in
+    let d = start.args.d in
+    let out = start.args.out.now in
     let r = past_range range in
-    let o : no_room size out ≡ false = on_unless _ (sym room.enum-told3.given.1 ∙ room.before.before.unless2.ensures) in
+    let o : no_room size out ≡ false = on_unless _ (sym room.in-On-unless.is ∙ room.unless-2.ensures) in
     ap told
     (ap (λ (l : List ℕ). (Accepted, l))
-    (c.before.before.put.ensures
-    ∙ put_one d out r (λ i. (start.slice-known.given i).fits) (ltb-false (length out) size o))
+    (c.put.ensures
+    ∙ put_one d out r (λ i. (start.slice_known-1.given i).fits) (ltb-false (length out) size o))
     ∙ sym (write_is d out false false r o))
 
 pub write_spec : {M : Type 1} → statement M

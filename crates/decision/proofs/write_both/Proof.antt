@@ -18,61 +18,61 @@ use Rattle.decision.proofs.write_both.Statement.{statement}
 use Rattle.decision.proofs.write_both.Tie as tie
 
 -- at the start, and past the ranges
-abbrev begun : tie.After-enum-told → tie.After-slice-known
-begun c = c.before.before.before.before.before
+abbrev begun : tie.In-On → tie.After-slice_known-1
+begun c = c.before.before.before.before
 
-past_range : (c : tie.After-enum-told) → let a = (begun c).before.args in out_of_range a.first || out_of_range a.second ≡ false
+past_range : (c : tie.In-On) → let a = (begun c).args in out_of_range a.first || out_of_range a.second ≡ false
 past_range c =
-    sym (ap₂ ◌||◌ c.before.before.before.before.out_of_range.ensures c.before.before.before.out-of-range2.ensures)
-    ∙ on_unless _ (sym c.enum_told.given.1 ∙ c.before.before.unless.ensures)
+    sym (ap₂ ◌||◌ c.out_of_range.ensures c.out_of_range-2.ensures)
+    ∙ on_unless _ (sym c.in-On.is ∙ c.unless.ensures)
 
 -- past the room
-past_room : (c : tie.After-enum-told3) → both_size ≤ length (begun c.before.before.before).before.args.out.now
-past_room c = ltb-false _ both_size (on_unless _ (sym c.enum-told3.given.1 ∙ c.before.before.unless2.ensures))
+past_room : (c : tie.In-On-unless) → both_size ≤ length (begun c.before.before).args.out.now
+past_room c = ltb-false _ both_size (on_unless _ (sym c.in-On-unless.is ∙ c.unless-2.ensures))
 
 -- the first record put
-first_put : (c : tie.After-put) → let a = (begun c.before.before.before.before.before).before.args in
-    c.put.new.1.0 ≡ bytes_of a.first ++ drop size a.out.now
+first_put : (c : tie.After-put) → let a = (begun c.before.before.before.before).args in
+    c.put.new.out ≡ bytes_of a.first ++ drop size a.out.now
 first_put c =
     let room = c.before.before in
-    let range = room.before.before.before in
+    let range = room.before.before in
     let start = begun range in
-    c.put.ensures ∙ put_one _ _ (neither _ _ (past_range range)).0 (λ i. (start.slice-known.given i).fits) (omega (arith, past_room room))
+    c.put.ensures ∙ put_one _ _ (neither _ _ (past_range range)).0 (λ i. (start.slice_known-1.given i).fits) (omega (arith, past_room room))
 
-returns : tie.Need-returns
+returns : tie.Need-returns-in_default
 returns c =
     let r =
-    sym (ap₂ ◌||◌ c.before.before.before.before.out_of_range.ensures c.before.before.before.out-of-range2.ensures)
-    ∙ off_unless _ (sym c.enum-told2.given.1 ∙ c.before.before.unless.ensures) in
+    sym (ap₂ ◌||◌ c.out_of_range.ensures c.out_of_range-2.ensures)
+    ∙ off_unless _ (sym c.in_default.is ∙ c.unless.ensures) in
     ap told (sym (both_is _ _ _ true _ r refl))
 
-returns-2 : tie.Need-returns-2
+returns-2 : tie.Need-returns-in_default-unless
 unfolding no_room
 returns-2 c =
-    ap told (sym (both_is _ _ _ false true (past_range c.before.before.before) (off_unless _ (sym c.enum-told4.given.1 ∙ c.before.before.unless2.ensures))))
+    ap told (sym (both_is _ _ _ false true (past_range c.before.before) (off_unless _ (sym c.in_default-unless.is ∙ c.unless-2.ensures))))
 
-sub-put : tie.Need-overflow-sub-put
+sub-put : tie.Need-slice_bounds-put-count
 sub-put c =
     let put = c.before.before in
-    let a = (begun put.before.before.before.before.before).before.args in
+    let a = (begun put.before.before.before.before).args in
     omega (arith, ap length (first_put put), length-append (bytes_of a.first) (drop size a.out.now), bytes_size a.first)
 
-part_put_start : tie.Need-slice-bounds-put-start
+part_put_start : tie.Need-slice_bounds-put-start
 part_put_start c = sub-put c
 
-returns-3 : tie.Need-returns-3
+returns-3 : tie.Need-returns
 unfolding no_room
 returns-3 c =
     let put = c.before.before.before.before.before.before in
     let room = put.before.before in
-    let range = room.before.before.before in
+    let range = room.before.before in
     let start = begun range in
-    let a = start.before.args in
+    let a = start.args in
     let r = past_range range in
-    let o : no_room both_size a.out.now ≡ false = on_unless _ (sym room.enum-told3.given.1 ∙ room.before.before.unless2.ensures) in
+    let o : no_room both_size a.out.now ≡ false = on_unless _ (sym room.in-On-unless.is ∙ room.unless-2.ensures) in
     ap told
     (ap (λ (l : List ℕ). (Accepted, l))
-    (put_both a.first a.second a.out.now _ _ (neither (out_of_range a.first) (out_of_range a.second) r).1 (λ i. (start.slice-known.given i).fits) (past_room room) (first_put put) c.before.before.put2.ensures
+    (put_both a.first a.second a.out.now _ _ (neither (out_of_range a.first) (out_of_range a.second) r).1 (λ i. (start.slice_known-1.given i).fits) (past_room room) (first_put put) c.put-2.ensures
     ∙ ap (λ (n : ℕ). both_bytes a.first a.second ++ drop n a.out.now) (sym (both_size_lem a.first a.second)))
     ∙ sym (both_is a.first a.second a.out.now false false r o))
 

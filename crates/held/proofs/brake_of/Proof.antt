@@ -8,7 +8,7 @@ use Rattle.held.proofs.brake_of.Statement.{statement}
 use Rattle.held.proofs.brake_of.Tie as tie
 
 -- past the first four fields, and past the pressures
-abbrev heard_at : tie.After-field8 → tie.After-heard-of
+abbrev heard_at : tie.After-field-7 → tie.After-heard_of-heard
 heard_at c = c.before.before.before.before
 
 returns : tie.Need-returns
@@ -18,18 +18,18 @@ returns c =
     let state = heard.before.before in
     let choice = state.before.before in
     λ i. record {
-      state = (state.state-of.ensures ∙ ap state_of state.before.field3.ensures.0) i;
-      hold = equalization.before.before.before.field5.ensures.0 i;
-      a = equalization.before.before.field6.ensures.0 i;
-      b = equalization.before.field7.ensures.0 i;
-      equalization = equalization.field8.ensures.0 i;
-      fall = c.before.before.before.field9.ensures.0 i;
-      last_front = c.before.before.field10.ensures.0 i;
-      last_rear = c.before.field11.ensures.0 i;
-      last_time = c.field12.ensures.0 i;
-      sampled = eqb (choice.before.before.field.ensures.0 i) 1;
-      choice = (choice.choice-of.ensures ∙ ap choice_of choice.before.field2.ensures.0) i;
-      heard = (heard.heard-of.ensures ∙ ap heard_of heard.before.field4.ensures.0) i;
+      state = (state.state_of-state.ensures ∙ ap state_of state.field-2.ensures.0) i;
+      hold = equalization.field-4.ensures.0 i;
+      a = equalization.field-5.ensures.0 i;
+      b = equalization.field-6.ensures.0 i;
+      equalization = equalization.field-7.ensures.0 i;
+      fall = c.field-8.ensures.0 i;
+      last_front = c.field-9.ensures.0 i;
+      last_rear = c.field-10.ensures.0 i;
+      last_time = c.field-11.ensures.0 i;
+      sampled = eqb (choice.field-sampled.ensures.0 i) 1;
+      choice = (choice.choice_of-choice.ensures ∙ ap choice_of choice.field.ensures.0) i;
+      heard = (heard.heard_of-heard.ensures ∙ ap heard_of heard.field-3.ensures.0) i;
     }
 
 pub brake_of_spec : {M : Type 1} → statement M

@@ -13,12 +13,12 @@ returns c =
     let sums = since.before in
     let stage = sums.before in
     λ i. record {
-      stage = (stage.stage-of.ensures ∙ ap stage_of stage.before.field.ensures.0) i;
-      since = since.field2.ensures.0 i;
-      init = init.field3.ensures.0 i;
-      last = last.field4.ensures.0 i;
-      pressure = c.field5.ensures.0 i;
-      sums = sums.sums-of.ensures i;
+      stage = (stage.stage_of-stage.ensures ∙ ap stage_of stage.field.ensures.0) i;
+      since = since.field-2.ensures.0 i;
+      init = init.field-3.ensures.0 i;
+      last = last.field-4.ensures.0 i;
+      pressure = c.field-5.ensures.0 i;
+      sums = sums.sums_of-sums.ensures i;
     }
 
 pub learner_of_spec : {M : Type 1} → statement M

@@ -9,7 +9,7 @@ unfolding no_front wrong_mark
 returns c =
     let state = c.before in
     let marked = state.before in
-    rw (marked.before.before.is-sealed.ensures, marked.has-blocks.ensures, marked.before.field.ensures.0, state.field2.ensures.0, c.field3.ensures.0)
+    rw (marked.is_sealed-is_sealed.ensures, marked.has_blocks.ensures, marked.field-mark.ensures.0, state.field.ensures.0, c.field-2.ensures.0)
 
 pub no_front_spec : {M : Type 1} → statement M
 no_front_spec = tie.close (tie.spec (λ c κs. search rules) (λ c κs. search rules) (λ c κs. search rules) (λ c κs. search rules) (λ c κs. search rules) returns)

@@ -39,43 +39,43 @@ module _ (s : List ℕ) where
     some h = right_size ∙ ap (λ (b : Bool). no_front (front_at s) || b) (behind_some (count_at s) (behind_at s) (some_blocks (count_at s) (λ z. h (e ∙ z))))
 
 -- the code's points: past the size, and past the front
-abbrev start : tie.After-size-at → tie.Start
-start c = c.before.before.before.before
+abbrev start : tie.After-size_at → tie.Start
+start c = c.before.before.before
 
-abbrev bytes : tie.After-size-at → List ℕ
+abbrev bytes : tie.After-size_at → List ℕ
 bytes c = (start c).args.s.now
 
-returns : tie.Need-returns
-returns c = wrong_size c.before.before.args.s.now (λ e. omega arith)
+returns : tie.Need-returns-then-s-lt-SIZE
+returns c = wrong_size c.args.s.now (λ e. omega arith)
 
-returns-2 : tie.Need-returns-2
-returns-2 c = wrong_size (bytes c.before) (λ e. c.if2.true (e ∙ sym c.before.size-at.ensures.0))
+returns-2 : tie.Need-returns-then-s-size_at
+returns-2 c = wrong_size (bytes c.before) (λ e. c.if-s-size_at.true (e ∙ sym c.size_at.ensures.0))
 
-sized : (c : tie.Else2) → length (bytes c.before) ≡ size_for (count_at (bytes c.before))
-sized c = c.if2.false ∙ c.before.size-at.ensures.0
+sized : (c : tie.Else-s-size_at) → length (bytes c.before) ≡ size_for (count_at (bytes c.before))
+sized c = c.if-s-size_at.false ∙ c.size_at.ensures.0
 
-returns-3 : tie.Need-returns-3
+returns-3 : tie.Need-returns-then-s-eq-SIZE
 returns-3 c =
     let right = c.before.before.before in
-    c.before.no_front.ensures ∙ sym (alone (bytes right.before) (sized right) c.if3.true)
+    c.no_front-front.ensures ∙ sym (alone (bytes right) (sized c.before.before) c.if-s-eq-SIZE.true)
 
-returns-4 : tie.Need-returns-4
+returns-4 : tie.Need-returns
 returns-4 c =
     let front = c.before.before.before in
     let right = front.before.before in
-    let s = bytes right.before in
-    ap₂ (λ (a b : Bool). a || not b) front.no_front.ensures (c.is-sealed.ensures ∙ ap is_sealed (take_all (length s - size) (behind_at s) (simp length-drop (omega arith))))
-    ∙ sym (some s (sized right) c.before.before.if3.false)
+    let s = bytes right in
+    ap₂ (λ (a b : Bool). a || not b) front.no_front-front.ensures (c.is_sealed-is_sealed.ensures ∙ ap is_sealed (take_all (length s - size) (behind_at s) (simp length-drop (omega arith))))
+    ∙ sym (some s (sized c.before.before.before.before) c.if-s-eq-SIZE.false)
 
 pub no_record_spec : {M : Type 1} → statement M
 no_record_spec =
     tie.close
     (tie.spec
     returns
-    (λ c. sym (length-take-le size c.before.before.before.args.s.now (omega arith)))
+    (λ c. sym (length-take-le size c.args.s.now (omega arith)))
     (λ c κs. search rules)
     returns-2
-    (λ c. sym (length-take-le size (bytes c.before.before) (omega arith)))
+    (λ c. sym (length-take-le size (bytes c.before) (omega arith)))
     (λ c κs. search rules)
     returns-3
     (λ c. search rules) (λ c. search rules) (λ c. search rules) (λ c κs. search rules)

@@ -10,11 +10,11 @@ returns c =
     let emergency = brake.before in
     λ i. record {
       opened = true;
-      consist = emergency.before.before.before.args.c;
-      brake = brake.brake-of.ensures i;
-      learner = c.learner-of.ensures i;
-      cause = emergency.before.field.ensures.0 i;
-      emergency = emergency.field2.ensures.0 i;
+      consist = emergency.args.c;
+      brake = brake.brake_of-brake.ensures i;
+      learner = c.learner_of-learner.ensures i;
+      cause = emergency.field-cause.ensures.0 i;
+      emergency = emergency.field-emergency.ensures.0 i;
     }
 
 pub of_bytes_spec : {M : Type 1} → statement M

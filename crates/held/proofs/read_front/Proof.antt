@@ -30,26 +30,26 @@ module _ (s : List ℕ) (c : Consist) where
   opened h = by_open true h
 
 -- past the test
-module _ (c : tie.After-is-open) where
+module _ (c : tie.After-is_open) where
   abbrev start : tie.Start
   start = c.before.before.before
 
-  made : c.before.of-bytes.result ≡ of_fields (fields_at start.args.s.now) start.args.c
-  made = c.before.of-bytes.ensures
+  made : c.of_bytes-x.result ≡ of_fields (fields_at start.args.s.now) start.args.c
+  made = c.of_bytes-x.ensures
 
   tested : is_open (of_fields (fields_at start.args.s.now) start.args.c) ≡ c.is_open.result
   tested = ap is_open (sym made) ∙ sym c.is_open.ensures
 
-returns : tie.Need-returns
+returns : tie.Need-returns-in_default
 returns c =
-    let judged = c.before.before.before.before in
-    let shut = not-true _ (off_unless _ (sym c.before.enum-told2.given.1 ∙ c.before.before.before.unless.ensures)) in
+    let judged = c.before.before.before in
+    let shut = not-true _ (off_unless _ (sym c.in_default.is ∙ c.unless.ensures)) in
     c.refused.ensures ∙ sym (ap read_told (closed _ _ (tested judged ∙ shut)))
 
-returns-2 : tie.Need-returns-2
+returns-2 : tie.Need-returns
 returns-2 c =
-    let judged = c.before.before.before in
-    let open_session = not-false _ (on_unless _ (sym c.enum_told.given.1 ∙ c.before.before.unless.ensures)) in
+    let judged = c.before.before in
+    let open_session = not-false _ (on_unless _ (sym c.in-On.is ∙ c.unless.ensures)) in
     ap read_told (ap (answer Accepted) (made judged) ∙ sym (opened _ _ (tested judged ∙ open_session)))
 
 pub read_front_spec : {M : Type 1} → statement M

@@ -17,22 +17,22 @@ use Rattle.held.proofs.read_start.Tie as tie
 no_bytes : read_session [] ≡ refused_with NoSession
 no_bytes = read_is [] true (too_short [] (omega arith))
 
-returns : tie.Need-returns
+returns : tie.Need-returns-then-s-lt-MOST
 returns c =
-    let s = c.before.before.before.args.s.now in
+    let s = c.args.s.now in
     c.refused.ensures ∙ sym (ap read_told (ap read_session (no_buffer s (omega arith)) ∙ no_bytes))
 
-returns-2 : tie.Need-returns-2
+returns-2 : tie.Need-returns
 returns-2 c =
     let sized = c.before.before in
-    let s = sized.before.before.before.before.args.s.now in
+    let s = sized.args.s.now in
     c.read.ensures
-    ∙ ap (λ (b : List ℕ). read_told (read_session b)) (ap (λ (n : ℕ). take n s) sized.size-at.ensures.0 ∙ sym (in_buffer s (omega arith)))
+    ∙ ap (λ (b : List ℕ). read_told (read_session b)) (ap (λ (n : ℕ). take n s) c.size_at-size.ensures.0 ∙ sym (in_buffer s (omega arith)))
 
 pub read_start_spec : {M : Type 1} → statement M
 read_start_spec =
     tie.close
     (tie.spec
     (λ c κs. search rules) returns
-    (λ c. sym (length-take-le size c.before.before.before.args.s.now (omega arith))) (λ c κs. search rules)
-    (λ c. sym (length-take-le _ c.before.before.before.before.before.args.s.now (omega arith))) (λ c κs. search rules) returns-2)
+    (λ c. sym (length-take-le size c.args.s.now (omega arith))) (λ c κs. search rules)
+    (λ c. sym (length-take-le _ c.args.s.now (omega arith))) (λ c κs. search rules) returns-2)

@@ -20,21 +20,21 @@ some f m e h =
     let n = size_some (m - letter) (omega arith) in
     (omega arith ∙ sym (ap (λ (n : ℕ). size_for (count_in n)) (sym e) ∙ ap size_for (count_some m h) ∙ n), omega arith)
 
-module _ (c : tie.After-has-blocks) where
+module _ (c : tie.After-has_blocks) where
   abbrev mark : ℕ
-  mark = c.before.field.result
+  mark = c.field-mark.result
 
-marked : (c : tie.Else1) → has_blocks (mark c.before) ≡ true
-marked c = sym c.before.has-blocks.ensures ∙ not-false _ c.if1.false
+marked : (c : tie.Else-not-has_blocks) → has_blocks (mark c.before) ≡ true
+marked c = sym c.has_blocks.ensures ∙ c.if-not-has_blocks.false
 
-returns : tie.Need-returns
-returns c = alone _ (mark c.before) c.before.before.field.ensures.0 (sym c.before.has-blocks.ensures ∙ not-true _ c.if1.true)
+returns : tie.Need-returns-then-not-has_blocks
+returns c = alone _ (mark c.before) c.field-mark.ensures.0 (sym c.has_blocks.ensures ∙ c.if-not-has_blocks.true)
 
-sub-result : tie.Need-overflow-sub-result
+sub-result : tie.Need-overflow_sub-result
 sub-result c = omega (arith, with_blocks (mark c.before) (marked c))
 
-returns-2 : tie.Need-returns-2
-returns-2 c = some _ (mark c.before) c.before.before.field.ensures.0 (marked c)
+returns-2 : tie.Need-returns
+returns-2 c = some _ (mark c.before) c.field-mark.ensures.0 (marked c)
 
 pub size_at_spec : {M : Type 1} → statement M
 size_at_spec =

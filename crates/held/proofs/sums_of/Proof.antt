@@ -9,11 +9,11 @@ returns c =
     let squares = pressures.before in
     let times = squares.before in
     λ i. record {
-      count = times.before.field.ensures.0 i;
-      times = times.field2.ensures.0 i;
-      squares = squares.field3.ensures.0 i;
-      pressures = pressures.field4.ensures.0 i;
-      products = c.field5.ensures.0 i;
+      count = times.field.ensures.0 i;
+      times = times.field-2.ensures.0 i;
+      squares = squares.field-3.ensures.0 i;
+      pressures = pressures.field-4.ensures.0 i;
+      products = c.field-5.ensures.0 i;
     }
 
 pub sums_of_spec : {M : Type 1} → statement M

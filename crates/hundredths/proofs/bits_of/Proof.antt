@@ -14,14 +14,14 @@ no_nan nan h = absurd (true≢false h)
 no_nan (inf s) h = tt
 no_nan (fin s m e) h = tt
 
-float-to-bits-result : tie.Need-float-to-bits-result
-float-to-bits-result c = no_nan c.before.args.x c.if1.false
+float-to-bits-result : tie.Need-float_to_bits-result
+float-to-bits-result c = no_nan c.args.x c.if-x.false
 
-returns : tie.Need-returns
+returns : tie.Need-returns-then-x
 unfolding to_bits
-returns c = sym (ap (to_bits binary32) (differs_from_itself c.before.args.x (subst T (sym c.if1.true) tt)))
+returns c = sym (ap (to_bits binary32) (differs_from_itself c.args.x (subst T (sym c.if-x.true) tt)))
 
-returns-2 : tie.Need-returns-2
+returns-2 : tie.Need-returns-else-x
 returns-2 c = search rules
 
 pub bits_of_spec : {M : Type 1} → statement M

@@ -9,25 +9,25 @@ use Rattle.hundredths.proofs.Value.{field-le, without_field, with_field}
 use Rattle.hundredths.proofs.exact.Statement.{statement}
 use Rattle.hundredths.proofs.exact.Tie as tie
 
-pattern : (c : tie.After-bits-of) → of_bits binary32 c.bits_of.result ≡ c.before.args.x
+pattern : (c : tie.After-bits_of-bits) → of_bits binary32 c.bits_of-bits.result ≡ c.args.x
 pattern c =
     -- an f32 is a value that its format holds
-    ap (of_bits binary32) c.bits_of.ensures ∙ of_bits-to_bits binary32 c.before.args.x (subst T (sym c.before.well-formed.0.1) tt)
+    ap (of_bits binary32) c.bits_of-bits.ensures ∙ of_bits-to_bits binary32 c.args.x (subst T (sym c.well_formed.0.1) tt)
 
-bits-of-requires : tie.Need-bits-of-requires
+bits-of-requires : tie.Need-bits_of-bits-requires
 bits-of-requires c κs = search rules
 
-returns : tie.Need-returns
-returns c = without_field c.before.bits_of.result (pattern c.before) c.before.before.requires c.if1.true
+returns : tie.Need-returns-then-field-eq0
+returns c = without_field c.bits_of-bits.result (pattern c.before) c.requires c.if-field-eq0.true
 
-add-digits : tie.Need-overflow-add-digits
+add-digits : tie.Need-overflow_add-digits
 add-digits c = search rules
 
-sub-places : tie.Need-overflow-sub-places
-sub-places c = omega (arith, field-le c.before.bits_of.result (pattern c.before) c.before.before.requires)
+sub-places : tie.Need-overflow_sub-places
+sub-places c = omega (arith, field-le c.bits_of-bits.result (pattern c.before) c.requires)
 
-returns-2 : tie.Need-returns-2
-returns-2 c = with_field c.before.bits_of.result (pattern c.before) c.before.before.requires c.if1.false
+returns-2 : tie.Need-returns
+returns-2 c = with_field c.bits_of-bits.result (pattern c.before) c.requires c.if-field-eq0.false
 
 pub exact_spec : {M : Type 1} → statement M
 exact_spec = tie.close (tie.spec bits-of-requires returns add-digits sub-places returns-2)

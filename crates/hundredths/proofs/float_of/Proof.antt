@@ -16,18 +16,18 @@ is_nan_lem nan h = refl
 is_nan_lem (inf s) h = absurd (true≢false (sym h))
 is_nan_lem (fin s m e) h = absurd (true≢false (sym h))
 
-float-from-bits-result : tie.Need-float-from-bits-result
+float-from-bits-result : tie.Need-float_from_bits-result
 float-from-bits-result c =
-    let b = c.before.args.bits in
-    subst (λ (t : Bool). T (not t)) (sym (nan_bits_above binary32 b ∙ le-ltb 0x7f80_0000 (b % 0x8000_0000) c.if1.false)) tt
+    let b = c.args.bits in
+    subst (λ (t : Bool). T (not t)) (sym (nan_bits_above binary32 b ∙ le-ltb 0x7f80_0000 (b % 0x8000_0000) c.if-bits-gt-INFINITY.false)) tt
 
-returns : tie.Need-returns
+returns : tie.Need-returns-then-bits-gt-INFINITY
 unfolding of_bits div
 returns c =
-    let b = c.before.args.bits in
-    is_nan_lem (of_bits binary32 b) (sym (nan_bits_is binary32 b) ∙ nan_bits_above binary32 b ∙ lt-ltb 0x7f80_0000 (b % 0x8000_0000) c.if1.true)
+    let b = c.args.bits in
+    is_nan_lem (of_bits binary32 b) (sym (nan_bits_is binary32 b) ∙ nan_bits_above binary32 b ∙ lt-ltb 0x7f80_0000 (b % 0x8000_0000) c.if-bits-gt-INFINITY.true)
 
-returns-2 : tie.Need-returns-2
+returns-2 : tie.Need-returns-else-bits-gt-INFINITY
 returns-2 c = search rules
 
 pub float_of_spec : {M : Type 1} → statement M

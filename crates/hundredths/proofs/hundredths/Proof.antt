@@ -14,16 +14,16 @@ use Rattle.hundredths.proofs.hundredths.Statement.{statement}
 use Rattle.hundredths.proofs.hundredths.Tie as tie
 
 -- 100 x, exactly
-hundredfold : (c : tie.After-exact) → 100 * numerator c.before.args.x * 2 ^ c.exact.result.places ≡ 100 * c.exact.result.digits * denominator c.before.args.x
+hundredfold : (c : tie.After-exact-value) → 100 * numerator c.args.x * 2 ^ c.exact-value.result.places ≡ 100 * c.exact-value.result.digits * denominator c.args.x
 hundredfold c =
-    let x = c.before.args.x in
-    let v = c.exact.result in
-    mul_assoc 100 (numerator x) (2 ^ v.places) ∙ ap (λ (z : ℕ). 100 * z) c.exact.ensures.value ∙ sym (mul_assoc 100 v.digits (denominator x))
+    let x = c.args.x in
+    let v = c.exact-value.result in
+    mul_assoc 100 (numerator x) (2 ^ v.places) ∙ ap (λ (z : ℕ). 100 * z) c.exact-value.ensures.value ∙ sym (mul_assoc 100 v.digits (denominator x))
 
-exact-requires : tie.Need-exact-requires
+exact-requires : tie.Need-exact-value-requires
 exact-requires c κs = wider most_psi most_exact c.args.x (lit≤ tt) c.requires
 
-mul-quotient : tie.Need-overflow-mul-quotient
+mul-quotient : tie.Need-overflow_mul-value
 mul-quotient c = search rules
 
 quotient-requires : tie.Need-quotient-requires
@@ -32,12 +32,12 @@ quotient-requires c κs = search rules
 returns : tie.Need-returns
 unfolding hundredths_of
 returns c =
-    let a = c.before.before.before.args in
-    let v = c.before.before.exact.result in
+    let a = c.args in
+    let v = c.exact-value.result in
     c.quotient.ensures
     ∙ rounded_same a.rounding (100 * v.digits) (2 ^ v.places) (100 * numerator a.x) (denominator a.x) (pow_pos v.places) (denominator_pos a.x) (sym (hundredfold c.before.before))
 
-cast-result : tie.Need-overflow-cast-result
+cast-result : tie.Need-overflow_cast-result
 cast-result c =
     let s = c.before.before.before in
     omega (arith, returns c, hundredths_most s.args.rounding most_psi s.args.x s.requires)

@@ -29,16 +29,16 @@ also : (a b : Bool) → (a ≡ true → b ≡ true) → (a && b) ≡ a
 also true b f = f refl
 also false b f = refl
 
-bits-of-requires : tie.Need-bits-of-requires
+bits-of-requires : tie.Need-bits_of-requires
 bits-of-requires c κs = search rules
 
 returns : tie.Need-returns
 returns c =
-    let x = c.before.args.x in
+    let x = c.args.x in
     -- an f32 is a value that its format holds
-    let held : T (fits binary32 x) = subst T (sym c.before.well-formed.0.1) tt in
+    let held : T (fits binary32 x) = subst T (sym c.well_formed.0.1) tt in
     let low : le (of_bits binary32 0) x ≡ true → leb c.bits_of.result 0x8000_0000 ≡ true = λ h. ap (λ (b : ℕ). leb b 0x8000_0000) c.bits_of.ensures ∙ le-leb (to_bits binary32 x) 0x8000_0000 (sign_low x held h) in
-    ap (λ (t : Bool). t && le x c.before.args.most) (also (le (of_bits binary32 0) x) (leb c.bits_of.result 0x8000_0000) low)
+    ap (λ (t : Bool). t && le x c.args.most) (also (le (of_bits binary32 0) x) (leb c.bits_of.result 0x8000_0000) low)
 
 pub in_range_spec : {M : Type 1} → statement M
 in_range_spec = tie.close (tie.spec bits-of-requires returns)

@@ -19,39 +19,39 @@ up_some n b h some =
     let same : n + (b - 1) ≡ (n - 1) + b = omega arith in
     ap (λ (z : ℕ). z / b) same ∙ add-div_right (n - 1) h
 
-enum_told : tie.Need-enum-told
+enum_told : tie.Need-enum_told-1
 enum_told c = search rules
 
 shifted-requires : tie.Need-shifted-requires
 shifted-requires c κs = search rules
 
-enum-told-2 : tie.Need-enum-told-2
+enum-told-2 : tie.Need-enum_told-in-Up
 enum-told-2 c = search rules
 
-sub-shifted : tie.Need-overflow-sub-shifted
+sub-shifted : tie.Need-overflow_sub-n
 sub-shifted c = search rules
 
-shifted-requires-2 : tie.Need-shifted-requires-2
+shifted-requires-2 : tie.Need-shifted-requires-else-n-eq0
 shifted-requires-2 c κs = search rules
 
-add-result : tie.Need-overflow-add-result
+add-result : tie.Need-overflow_add-result
 add-result c =
-    let a = c.before.before.before.before.args in
-    omega (arith, c.shifted2.ensures, div-le_self (a.n - 1) (2 ^ a.places))
+    let a = c.args in
+    omega (arith, c.shifted-else-n-eq0.ensures, div-le_self (a.n - 1) (2 ^ a.places))
 
-returns : tie.Need-returns
-returns c = rw c.before.enum_told.given.1 c.shifted.ensures
+returns : tie.Need-returns-in-Down
+returns c = rw c.in-Down.is c.shifted.ensures
 
-returns-2 : tie.Need-returns-2
+returns-2 : tie.Need-returns-then-n-eq0
 returns-2 c =
-    let a = c.before.before.before.args in
-    rw c.before.enum-told2.given.1 (sym (up_none a.n (2 ^ a.places) (pow_pos a.places) c.if1.true))
+    let a = c.args in
+    rw c.in-Up.is (sym (up_none a.n (2 ^ a.places) (pow_pos a.places) c.if-n-eq0.true))
 
-returns-3 : tie.Need-returns-3
+returns-3 : tie.Need-returns-else-n-eq0
 returns-3 c =
-    let a = c.before.before.before.before.args in
-    rw c.before.before.enum-told2.given.1
-    (ap (λ (z : ℕ). z + 1) c.shifted2.ensures ∙ sym (up_some a.n (2 ^ a.places) (pow_pos a.places) c.before.if1.false))
+    let a = c.args in
+    rw c.in-Up.is
+    (ap (λ (z : ℕ). z + 1) c.shifted-else-n-eq0.ensures ∙ sym (up_some a.n (2 ^ a.places) (pow_pos a.places) c.if-n-eq0.false))
 
 pub quotient_spec : {M : Type 1} → statement M
 quotient_spec =

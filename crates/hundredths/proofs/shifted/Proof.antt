@@ -6,15 +6,15 @@ use borrow.Author.Rules.{rules}
 use Rattle.hundredths.proofs.shifted.Statement.{statement}
 use Rattle.hundredths.proofs.shifted.Tie as tie
 
-shr-result : tie.Need-overflow-shr-result
+shr-result : tie.Need-overflow_shr-result
 shr-result c = search rules
 
-returns : tie.Need-returns
+returns : tie.Need-returns-then-places-lt32
 returns c = search rules
 
 -- n is below 2 ^ 32
-returns-2 : tie.Need-returns-2
-returns-2 c = sym (div-eq_of_lt (lt_of_lt_of_le c.before.ranges.n.fits (pow_mono {i = 32} {j = c.before.args.places} c.if1.false)))
+returns-2 : tie.Need-returns-else-places-lt32
+returns-2 c = sym (div-eq_of_lt (lt_of_lt_of_le c.ranges.n.fits (pow_mono {i = 32} {j = c.args.places} c.if-places-lt32.false)))
 
 pub shifted_spec : {M : Type 1} → statement M
 shifted_spec = tie.close (tie.spec shr-result returns returns-2)

@@ -13,28 +13,28 @@ use Rattle.hundredths.proofs.Judge.{judges}
 use Rattle.hundredths.proofs.speed.Statement.{statement}
 use Rattle.hundredths.proofs.speed.Tie as tie
 
-in-range-requires : tie.Need-in-range-requires
+in-range-requires : tie.Need-in_range-requires
 in-range-requires c κs = search rules
 
-test : (c : tie.After-in-range) → c.in-range.result ≡ not (is_bad most_speed c.before.args.x)
+test : (c : tie.After-in_range) → c.in_range.result ≡ not (is_bad most_speed c.args.x)
 unfolding of_bits
 test c =
-    let compared : c.in-range.result ≡ in_range c.before.args.x (fin false 25 (pos 2)) = c.in-range.ensures in
-    compared ∙ judges most_speed 25 2 refl c.before.args.x
+    let compared : c.in_range.result ≡ in_range c.args.x (fin false 25 (pos 2)) = c.in_range.ensures in
+    compared ∙ judges most_speed 25 2 refl c.args.x
 
-accepted : (c : tie.Then1) → is_bad most_speed c.before.before.args.x ≡ false
-accepted c = not-true (is_bad most_speed c.before.before.args.x) (sym (test c.before) ∙ c.if1.true)
+accepted : (c : tie.Then-in_range) → is_bad most_speed c.args.x ≡ false
+accepted c = not-true (is_bad most_speed c.args.x) (sym (test c.before) ∙ c.if-in_range.true)
 
 hundredths-requires : tie.Need-hundredths-requires
-hundredths-requires c κs = wider most_speed most_psi c.before.before.args.x (lit≤ tt) (accepted c)
+hundredths-requires c κs = wider most_speed most_psi c.args.x (lit≤ tt) (accepted c)
 
-returns : tie.Need-returns
+returns : tie.Need-returns-then-in_range
 unfolding speed_of
 returns c = simp (accepted c.before, c.hundredths.ensures)
 
-returns-2 : tie.Need-returns-2
+returns-2 : tie.Need-returns-else-in_range
 unfolding speed_of
-returns-2 c = simp (not-false (is_bad most_speed c.before.before.args.x) (sym (test c.before) ∙ c.if1.false))
+returns-2 c = simp (not-false (is_bad most_speed c.args.x) (sym (test c.before) ∙ c.if-in_range.false))
 
 pub speed_spec : {M : Type 1} → statement M
 speed_spec = tie.close (tie.spec in-range-requires hundredths-requires returns returns-2)

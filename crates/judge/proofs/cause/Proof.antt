@@ -10,38 +10,38 @@ use Rattle.judge.proofs.Causes.{found, not_here, none_left}
 use Rattle.judge.proofs.cause.Statement.{statement}
 use Rattle.judge.proofs.cause.Tie as tie
 
-abbrev invariant-loop : tie.invariant-loop
+abbrev invariant-loop : tie.invariant-loop-k
 invariant-loop offset head speed count locations speeds arrivals n k₀ k =
     (n ≤ most) × (k ≤ n) × (cause_of offset head speed count locations speeds arrivals ≡ first_from (calls offset head speed locations speeds arrivals) k (n - k))
 
-abbrev decreases-loop : tie.decreases-loop
+abbrev decreases-loop : tie.decreases-loop-k
 decreases-loop offset head speed count locations speeds arrivals n k₀ k = n - k
 
-loop_holds : tie.Need-loop-init invariant-loop decreases-loop
+loop_holds : tie.Need-loop-k-init invariant-loop decreases-loop
 unfolding cause_of
 loop_holds c =
-    let a = c.before.args in
-    let e = c.places.ensures in (
+    let a = c.args in
+    let e = c.places-n.ensures in (
       omega (arith, e),
       omega arith,
-      ap (λ (m : ℕ). first_from (calls a.offset a.head a.speed a.t5 a.t6 a.t7) 0 m) (omega (arith, e)),
+      ap (λ (m : ℕ). first_from (calls a.offset a.head a.speed a.locations a.speeds a.arrivals) 0 m) (omega (arith, e)),
     )
 
-returns : tie.Need-returns invariant-loop decreases-loop
+returns : tie.Need-returns-then-is_called invariant-loop decreases-loop
 returns c =
-    let l = c.before.before.before.loop in
-    sym (l.invariant.2 ∙ found _ l.k _ (omega arith) c.before.is-called.ensures c.if1.true)
+    let l = c.loop-k in
+    sym (l.invariant.2 ∙ found _ l.k _ (omega arith) c.is_called.ensures c.if-is_called.true)
 
-loop_again : tie.Need-loop-preserved invariant-loop decreases-loop
+loop_again : tie.Need-loop-k-preserved invariant-loop decreases-loop
 loop_again c =
-    let l = c.before.before.before.loop in (
+    let l = c.loop-k in (
       omega arith,
       omega arith,
-      l.invariant.2 ∙ not_here _ l.k _ (omega arith) c.before.is-called.ensures c.if1.false,
+      l.invariant.2 ∙ not_here _ l.k _ (omega arith) c.is_called.ensures c.if-is_called.false,
     )
 
-returns-2 : tie.Need-returns-2 invariant-loop decreases-loop
-returns-2 c = let l = c.before.loop in sym (l.invariant.2 ∙ none_left _ l.k _ (omega arith))
+returns-2 : tie.Need-returns invariant-loop decreases-loop
+returns-2 c = let l = c.loop-k in sym (l.invariant.2 ∙ none_left _ l.k _ (omega arith))
 
 pub cause_spec : {M : Type 1} → statement M
 cause_spec =

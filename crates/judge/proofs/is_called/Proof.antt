@@ -9,16 +9,16 @@ use Rattle.judge.proofs.Offsets.{offset_most}
 use Rattle.judge.proofs.is_called.Statement.{statement}
 use Rattle.judge.proofs.is_called.Tie as tie
 
-add-past : tie.Need-overflow-add-past
+add-past : tie.Need-overflow_add-past
 add-past c =
-    let a = c.before.args in
-    omega (arith, c.offset-for.ensures, offset_most a.offset a.v a.u)
+    let a = c.args in
+    omega (arith, c.offset_for.ensures, offset_most a.offset a.v a.u)
 
 returns : tie.Need-returns
 unfolding is_called
 returns c =
-    let a = c.before.before.args in
-    λ i. c.is-judged.ensures i && ltb a.target (a.arrival + c.before.offset-for.ensures i)
+    let a = c.args in
+    λ i. c.is_judged.ensures i && ltb a.target (a.arrival + c.offset_for.ensures i)
 
 pub is_called_spec : {M : Type 1} → statement M
 is_called_spec = tie.close (tie.spec (λ c κs. search rules) add-past (λ c κs. search rules) returns)

@@ -10,8 +10,8 @@ use Rattle.judge.proofs.is_emergency_called.Tie as tie
 returns : tie.Need-returns
 unfolding is_emergency_called
 returns c =
-    let a = c.before.args in
-    ap (λ (judged : Bool). judged && eqb a.u 0 && leb a.target a.stop) c.is-judged.ensures
+    let a = c.args in
+    ap (λ (judged : Bool). judged && eqb a.u 0 && leb a.target a.stop) c.is_judged.ensures
 
 pub is_emergency_called_spec : {M : Type 1} → statement M
 is_emergency_called_spec = tie.close (tie.spec (λ c κs. search rules) returns)

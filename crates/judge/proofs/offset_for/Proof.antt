@@ -14,28 +14,28 @@ use Rattle.judge.proofs.offset_for.Tie as tie
 square : (v : ℕ) → Fits w16 v → v * v ≤ (2 ^ 16 - 1) * (2 ^ 16 - 1)
 square v h = let l : v ≤ 2 ^ 16 - 1 = omega arith in mul-le-mul l l
 
-returns : tie.Need-returns
-returns c = let a = c.before.args in sym (offset_none a.offset a.v a.u c.if1.true)
+returns : tie.Need-returns-then-v-u
+returns c = let a = c.args in sym (offset_none a.offset a.v a.u c.if-v-u.true)
 
-mul-vv : tie.Need-overflow-mul-vv
-mul-vv c = omega (arith, square _ c.before.ranges.v)
+mul-vv : tie.Need-overflow_mul-vv
+mul-vv c = omega (arith, square _ c.ranges.v)
 
-mul-uu : tie.Need-overflow-mul-uu
-mul-uu c = omega (arith, square _ c.before.ranges.u)
+mul-uu : tie.Need-overflow_mul-uu
+mul-uu c = omega (arith, square _ c.ranges.u)
 
-sub-ceil-div : tie.Need-overflow-sub-ceil-div
-sub-ceil-div c = let l : c.before.args.u ≤ c.before.args.v = omega arith in mul-le-mul l l
+sub-ceil-div : tie.Need-overflow_sub-vv
+sub-ceil-div c = let l : c.args.u ≤ c.args.v = omega arith in mul-le-mul l l
 
-mul-ceil-div : tie.Need-overflow-mul-ceil-div
+mul-ceil-div : tie.Need-overflow_mul-offset
 mul-ceil-div c =
-    let a = c.before.args in
+    let a = c.args in
     let o : a.offset ≤ 2 ^ 16 - 1 = omega arith in
-    let d : a.v * a.v - a.u * a.u ≤ (2 ^ 16 - 1) * (2 ^ 16 - 1) = omega (arith, square _ c.before.ranges.v) in
+    let d : a.v * a.v - a.u * a.u ≤ (2 ^ 16 - 1) * (2 ^ 16 - 1) = omega (arith, square _ c.ranges.v) in
     omega (arith, mul-le-mul o d)
 
-returns-2 : tie.Need-returns-2
+returns-2 : tie.Need-returns
 unfolding offset_for
-returns-2 c = c.ceil-div.ensures
+returns-2 c = c.ceil_div.ensures
 
 pub offset_for_spec : {M : Type 1} → statement M
 offset_for_spec =

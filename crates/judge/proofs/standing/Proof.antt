@@ -15,11 +15,11 @@ module _ (stood called : ℕ) where
   unfolding standing
   one_stood h = rw (ne_eqb stood 0 h)
 
-returns : tie.Need-returns
-returns c = let a = c.before.args in none_stood a.stood a.called c.if1.true
+returns : tie.Need-returns-then-stood-eq0
+returns c = let a = c.args in none_stood a.stood a.called c.if-stood-eq0.true
 
-returns-2 : tie.Need-returns-2
-returns-2 c = let a = c.before.args in one_stood a.stood a.called c.if1.false
+returns-2 : tie.Need-returns-else-stood-eq0
+returns-2 c = let a = c.args in one_stood a.stood a.called c.if-stood-eq0.false
 
 pub standing_spec : {M : Type 1} → statement M
 standing_spec = tie.close (tie.spec returns returns-2)

@@ -23,14 +23,14 @@ complete : (l : Learner) (t p : ℕ) (sums : Sums) (fall seconds : ℕ) (level :
     → (leb 4 sums.count && level) ≡ is_complete l t p
 complete l t p sums fall seconds level e f g h = rw (h, e, f, g)
 
-tested : (c : tie.After-levels-off) (b : Bool)
-    → let point = c.before.before.before.before.before.before in let a = point.before.before.args in
-    (leb 4 point.with-point.result.count && c.levels-off.result) ≡ b → is_complete a.l a.t a.p ≡ b
+tested : (c : tie.After-levels_off) (b : Bool)
+    → let point = c.before.before.before.before.before.before in let a = point.args in
+    (leb 4 point.with_point-sums.result.count && c.levels_off.result) ≡ b → is_complete a.l a.t a.p ≡ b
 tested c b h =
     let later = c.before.before in
     let point = later.before.before.before.before in
-    let a = point.before.before.args in
-    sym (complete a.l a.t a.p _ _ _ _ point.with-point.ensures.0 later.before.before.above.ensures later.above2.ensures c.levels-off.ensures) ∙ h
+    let a = point.args in
+    sym (complete a.l a.t a.p _ _ _ _ point.with_point-sums.ensures.0 later.above-fall.ensures later.above-seconds.ensures c.levels_off.ensures) ∙ h
 
 module _ (l : Learner) (s : Shown) (t p : ℕ) where
   ended : is_complete l t p ≡ true → lesson (bare Done) (result_of l.init s.equalization p l.sums) ≡ added_to l s t p
@@ -41,24 +41,24 @@ module _ (l : Learner) (s : Shown) (t p : ℕ) where
   unfolding added_to
   goes_on h = failed (is_complete l t p) _ _ h
 
-with-point-requires : tie.Need-with-point-requires
-with-point-requires c κs = (c.before.requires.0.sums, c.before.requires.1)
+with-point-requires : tie.Need-with_point-sums-requires
+with-point-requires c κs = (c.requires.0.sums, c.requires.1)
 
-levels-off-requires : tie.Need-levels-off-requires
-levels-off-requires c κs = c.before.before.before.before.before.with-point.ensures.1
+levels-off-requires : tie.Need-levels_off-requires
+levels-off-requires c κs = c.with_point-sums.ensures.1
 
-returns : tie.Need-returns
+returns : tie.Need-returns-then-is_complete
 returns c =
     let test = c.before.before in
-    let a = test.before.before.before.before.before.before.before.before.before.args in
-    let learnt : c.before.result.result ≡ result_of a.l.init a.s.equalization a.p a.l.sums = c.before.result.ensures in
-    rw (c.bare.ensures, learnt) (ended _ _ _ _ (tested test.before true test.if1.true))
+    let a = test.args in
+    let learnt : c.result-learnt.result ≡ result_of a.l.init a.s.equalization a.p a.l.sums = c.result-learnt.ensures in
+    rw (c.bare.ensures, learnt) (ended _ _ _ _ (tested test.before true test.if-is_complete.true))
 
-returns-2 : tie.Need-returns-2
+returns-2 : tie.Need-returns
 returns-2 c =
     let test = c.before in
     let point = test.before.before.before.before.before.before.before in
-    c.without.ensures ∙ rw point.with-point.ensures.0 (goes_on _ _ _ _ (tested test.before false test.if1.false))
+    c.without.ensures ∙ rw point.with_point-sums.ensures.0 (goes_on _ _ _ _ (tested test.before false test.if-is_complete.false))
 
 pub added_spec : {M : Type 1} → statement M
 added_spec =

@@ -9,27 +9,27 @@ use Rattle.learn.proofs.Rooms.{none_sound}
 use Rattle.learn.proofs.first.Statement.{statement}
 use Rattle.learn.proofs.first.Tie as tie
 
-returns : tie.Need-returns
+returns : tie.Need-returns-then-l-p
 unfolding first_to
 returns c =
-    let a = c.before.before.before.args in
-    rw (lt-leb (a.p + 300) a.l.pressure (omega (arith, c.before.if1.true))) c.without.ensures
+    let a = c.args in
+    rw (lt-leb (a.p + 300) a.l.pressure (omega (arith, c.if-l-p.true))) c.without.ensures
 
-with-point-requires : tie.Need-with-point-requires
+with-point-requires : tie.Need-with_point-sums-requires
 with-point-requires c κs = rw c.none.ensures (none_sound, omega arith)
 
-cast-t12 : tie.Need-overflow-cast-t12
-cast-t12 c = omega (arith, c.before.before.timer.ensures, c.before.before.before.before.before.requires)
+cast-t12 : tie.Need-overflow_cast-init
+cast-t12 c = omega (arith, c.timer-init.ensures, c.requires)
 
-returns-2 : tie.Need-returns-2
+returns-2 : tie.Need-returns
 unfolding first_to
 returns-2 c =
     let point = c.before in
     let none = point.before in
     let test = none.before.before in
-    let a = test.before.before.args in
-    rw (le-leb (a.p + 300) a.l.pressure (omega (arith, test.if1.false)))
-    (c.without2.ensures ∙ rw (point.with-point.ensures.0, none.none.ensures, none.before.timer.ensures))
+    let a = test.args in
+    rw (le-leb (a.p + 300) a.l.pressure (omega (arith, test.if-l-p.false)))
+    (c.without-2.ensures ∙ rw (point.with_point-sums.ensures.0, none.none.ensures, none.timer-init.ensures))
 
 pub first_spec : {M : Type 1} → statement M
 first_spec =

@@ -14,28 +14,28 @@ use Rattle.learn.proofs.heard.Tie as tie
 known : (l : Learner) (s : Shown) (p : ℕ) (stage : Stage) → l.stage ≡ stage → heard_in stage l s p ≡ heard_in l.stage l s p
 known l s p stage e = ap (λ (stage : Stage). heard_in stage l s p) (sym e)
 
-returns : tie.Need-returns
+returns : tie.Need-returns-in-Waiting
 unfolding heard_in
-returns c = c.without.ensures ∙ known _ _ _ Waiting c.before.enum_told.given.1
+returns c = c.without.ensures ∙ known _ _ _ Waiting c.in-Waiting.is
 
-returns-2 : tie.Need-returns-2
+returns-2 : tie.Need-returns-in-FrontFell
 unfolding heard_in
 returns-2 c =
-    let a = c.before.before.before.before.args in
-    let kept : c.before.without-points.result ≡ kept_initial a.l.since a.p = c.before.without-points.ensures in
-    c.without2.ensures ∙ rw kept (known _ _ _ FrontFell c.before.before.enum-told2.given.1)
+    let a = c.args in
+    let kept : c.without_points.result ≡ kept_initial a.l.since a.p = c.without_points.ensures in
+    c.without-in-FrontFell.ensures ∙ rw kept (known _ _ _ FrontFell c.in-FrontFell.is)
 
-returns-3 : tie.Need-returns-3
+returns-3 : tie.Need-returns-in-Initial
 unfolding heard_in
-returns-3 c = c.first.ensures ∙ known _ _ _ Initial c.before.enum-told3.given.1
+returns-3 c = c.first.ensures ∙ known _ _ _ Initial c.in-Initial.is
 
-returns-4 : tie.Need-returns-4
+returns-4 : tie.Need-returns-in-Falling
 unfolding heard_in
-returns-4 c = c.further.ensures ∙ known _ _ _ Falling c.before.enum-told4.given.1
+returns-4 c = c.further.ensures ∙ known _ _ _ Falling c.in-Falling.is
 
-returns-5 : tie.Need-returns-5
+returns-5 : tie.Need-returns-in-Done
 unfolding heard_in
-returns-5 c = c.without3.ensures ∙ known _ _ _ Done c.before.enum-told5.given.1
+returns-5 c = c.without-in-Done.ensures ∙ known _ _ _ Done c.in-Done.is
 
 pub heard_spec : {M : Type 1} → statement M
 heard_spec =

@@ -5,20 +5,20 @@ use borrow.Author.Rules.{rules}
 use Rattle.learn.proofs.stage_number.Statement.{statement}
 use Rattle.learn.proofs.stage_number.Tie as tie
 
-returns : tie.Need-returns
-returns c = ap stage_number (sym c.enum_told.given.1)
+returns : tie.Need-returns-in-Waiting
+returns c = ap stage_number (sym c.in-Waiting.is)
 
-returns-2 : tie.Need-returns-2
-returns-2 c = ap stage_number (sym c.enum-told2.given.1)
+returns-2 : tie.Need-returns-in-FrontFell
+returns-2 c = ap stage_number (sym c.in-FrontFell.is)
 
-returns-3 : tie.Need-returns-3
-returns-3 c = ap stage_number (sym c.enum-told3.given.1)
+returns-3 : tie.Need-returns-in-Initial
+returns-3 c = ap stage_number (sym c.in-Initial.is)
 
-returns-4 : tie.Need-returns-4
-returns-4 c = ap stage_number (sym c.enum-told4.given.1)
+returns-4 : tie.Need-returns-in-Falling
+returns-4 c = ap stage_number (sym c.in-Falling.is)
 
-returns-5 : tie.Need-returns-5
-returns-5 c = ap stage_number (sym c.enum-told5.given.1)
+returns-5 : tie.Need-returns-in-Done
+returns-5 c = ap stage_number (sym c.in-Done.is)
 
 pub stage_number_spec : {M : Type 1} → statement M
 stage_number_spec =

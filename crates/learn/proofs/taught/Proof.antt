@@ -13,37 +13,37 @@ use Rattle.learn.proofs.Choices.{passed, failed}
 use Rattle.learn.proofs.taught.Statement.{statement}
 use Rattle.learn.proofs.taught.Tie as tie
 
-returns : tie.Need-returns
+returns : tie.Need-returns-then-not-s
 unfolding taught_of
 returns c =
-    let start = c.before.before.before.before.args in
-    let kept : c.before.bare.result ≡ bare Waiting = c.before.bare.ensures in
-    c.without.ensures ∙ rw kept (failed start.s.service _ _ (not-true start.s.service c.before.before.if1.true))
+    let start = c.args in
+    let kept : c.bare.result ≡ bare Waiting = c.bare.ensures in
+    c.without.ensures ∙ rw kept (failed start.s.service _ _ (not-true start.s.service c.if-not-s.true))
 
 -- what a stage that is known is taught in service
 known : (l : Learner) (s : Shown) (stage : Stage) → not s.service ≡ false → l.stage ≡ stage → in_stage stage l s ≡ taught_of l s
 unfolding taught_of
 known l s stage h e = ap (λ (stage : Stage). in_stage stage l s) (sym e) ∙ passed s.service _ _ (not-false s.service h)
 
-returns-2 : tie.Need-returns-2
+returns-2 : tie.Need-returns-in-Waiting
 unfolding in_stage
-returns-2 c = c.without2.ensures ∙ rw c.before.waited.ensures (known _ _ Waiting c.before.before.before.before.if1.false c.before.before.enum_told.given.1)
+returns-2 c = c.without-in-Waiting.ensures ∙ rw c.waited.ensures (known _ _ Waiting c.if-not-s.false c.in-Waiting.is)
 
-returns-3 : tie.Need-returns-3
+returns-3 : tie.Need-returns-in-FrontFell
 unfolding in_stage
-returns-3 c = c.timed.ensures ∙ known _ _ FrontFell c.before.before.before.if1.false c.before.enum-told2.given.1
+returns-3 c = c.timed.ensures ∙ known _ _ FrontFell c.if-not-s.false c.in-FrontFell.is
 
-returns-4 : tie.Need-returns-4
+returns-4 : tie.Need-returns-in-Initial
 unfolding in_stage
-returns-4 c = c.timed2.ensures ∙ known _ _ Initial c.before.before.before.if1.false c.before.enum-told3.given.1
+returns-4 c = c.timed-in-Initial.ensures ∙ known _ _ Initial c.if-not-s.false c.in-Initial.is
 
-returns-5 : tie.Need-returns-5
+returns-5 : tie.Need-returns-in-Falling
 unfolding in_stage
-returns-5 c = c.timed3.ensures ∙ known _ _ Falling c.before.before.before.if1.false c.before.enum-told4.given.1
+returns-5 c = c.timed-in-Falling.ensures ∙ known _ _ Falling c.if-not-s.false c.in-Falling.is
 
-returns-6 : tie.Need-returns-6
+returns-6 : tie.Need-returns-in-Done
 unfolding in_stage
-returns-6 c = c.without3.ensures ∙ rw c.before.stayed.ensures (known _ _ Done c.before.before.before.before.if1.false c.before.before.enum-told5.given.1)
+returns-6 c = c.without-in-Done.ensures ∙ rw c.stayed.ensures (known _ _ Done c.if-not-s.false c.in-Done.is)
 
 pub taught_spec : {M : Type 1} → statement M
 taught_spec =

@@ -11,23 +11,23 @@ use borrow.Author.Rules.{rules}
 use Rattle.lent.proofs.application.Statement.{statement}
 use Rattle.lent.proofs.application.Tie as tie
 
-module _ (c : tie.After-read-start) where
+module _ (c : tie.After-read_start-found) where
   abbrev bytes : List ℕ
-  bytes = c.before.before.args.session.now
+  bytes = c.args.session.now
 
-  reads : (c.read-start.result.verdict, c.read-start.result.session) ≡ read_session (record_at bytes)
-  reads = read_tells (c.read-start.result.verdict, c.read-start.result.session) (read_session (record_at bytes)) c.read-start.ensures
+  reads : (c.read_start-found.result.verdict, c.read_start-found.result.session) ≡ read_session (record_at bytes)
+  reads = read_tells (c.read_start-found.result.verdict, c.read_start-found.result.session) (read_session (record_at bytes)) c.read_start-found.ensures
 
-returns : tie.Need-returns
+returns : tie.Need-returns-in_default
 returns c =
-    let k = c.before.before in
-    time_of_none (bytes k) _ (sym (ap (λ (r : Verdict × Session). r.0) (reads k)) ∙ c.enum-told2.given.1)
+    let k = c.before in
+    time_of_none (bytes k) _ (sym (ap (λ (r : Verdict × Session). r.0) (reads k)) ∙ c.in_default.is)
 
-returns-2 : tie.Need-returns-2
+returns-2 : tie.Need-returns
 returns-2 c =
     let told = c.before in
-    let k = told.before.before in
-    time_of_one (bytes k) _ (sym (reads k) ∙ ap (λ (v : Verdict). (v, k.read-start.result.session)) told.enum_told.given.1)
+    let k = told.before in
+    time_of_one (bytes k) _ (sym (reads k) ∙ ap (λ (v : Verdict). (v, k.read_start-found.result.session)) told.in-Accepted.is)
 
 pub application_spec : {M : Type 1} → statement M
 application_spec = tie.close (tie.spec (λ c κs. search rules) (λ c. search rules) (λ c. search rules) returns returns-2)

@@ -12,27 +12,27 @@ use Rattle.lent.specs.Lent.{zeros}
 use Rattle.lent.proofs.clear.Statement.{statement}
 use Rattle.lent.proofs.clear.Tie as tie
 
-abbrev invariant-loop : tie.invariant-loop
+abbrev invariant-loop : tie.invariant-loop-i
 invariant-loop s₀ i₀ i_end s i = (i ≤ i_end) × (s ≡ zeros i ++ drop i s₀) × (length s ≡ length s₀)
 
-abbrev decreases-loop : tie.decreases-loop
+abbrev decreases-loop : tie.decreases-loop-i
 decreases-loop s₀ i₀ i_end s i = i_end - i
 
-loop_again : tie.Need-loop-preserved invariant-loop decreases-loop
+loop_again : tie.Need-loop-i-preserved invariant-loop decreases-loop
 loop_again c =
     let at_loop = c.before in
-    let i = at_loop.loop.i in (
-      add-one-le c.loop-test.true,
-      ap (λ (l : List ℕ). set l i 0) at_loop.loop.invariant.1 ∙ fill_more i 0 at_loop.before.args.s.now c.loop-test.true,
-      length-set at_loop.loop.s i 0 ∙ at_loop.loop.invariant.2,
+    let i = at_loop.loop-i.i in (
+      add-one-le c.loop-i-test.true,
+      ap (λ (l : List ℕ). set l i 0) at_loop.loop-i.invariant.1 ∙ fill_more i 0 at_loop.args.s.now c.loop-i-test.true,
+      length-set at_loop.loop-i.s i 0 ∙ at_loop.loop-i.invariant.2,
     )
 
 returns : tie.Need-returns invariant-loop decreases-loop
 returns c =
     let at_loop = c.before in
-    let s = at_loop.before.args.s.now in
-    let n = le_antisymm at_loop.loop.invariant.0 c.loop-test.false in
-    at_loop.loop.invariant.1
+    let s = at_loop.args.s.now in
+    let n = le_antisymm at_loop.loop-i.invariant.0 c.loop-i-test.false in
+    at_loop.loop-i.invariant.1
     ∙ ap (λ (k : ℕ). zeros k ++ drop k s) n
     ∙ ap (λ (l : List ℕ). zeros (length s) ++ l) (drop-length s)
     ∙ append-nil (zeros (length s))
@@ -40,4 +40,4 @@ returns c =
 pub clear_spec : {M : Type 1} → statement M
 clear_spec =
     tie.close
-    (tie.spec invariant-loop decreases-loop (λ c. (zero-le, refl, refl)) (λ c. omega arith) (λ c. omega arith) (λ c. omega arith) loop_again (λ c. c.before.loop.invariant.2) returns)
+    (tie.spec invariant-loop decreases-loop (λ c. (zero-le, refl, refl)) (λ c. omega arith) (λ c. omega arith) (λ c. omega arith) loop_again (λ c. c.loop-i.invariant.2) returns)

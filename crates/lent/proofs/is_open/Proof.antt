@@ -18,12 +18,12 @@ unfolding is_open_bytes
 returns c = by (no_session bytes) refl
   where
     bytes : List ℕ
-    bytes = record_at c.before.before.before.args.session.now
+    bytes = record_at c.args.session.now
 
-    told : c.verdict-number.result ≡ number_of_verdict (read_session bytes).0
-    told = c.verdict-number.ensures ∙ ap (λ (t : ℕ × Told). t.0) c.before.read-start.ensures
+    told : c.verdict_number.result ≡ number_of_verdict (read_session bytes).0
+    told = c.verdict_number.ensures ∙ ap (λ (t : ℕ × Told). t.0) c.read_start-found.ensures
 
-    by : (n : Bool) → no_session bytes ≡ n → eqb c.verdict-number.result 0 ≡ not (no_session bytes)
+    by : (n : Bool) → no_session bytes ≡ n → eqb c.verdict_number.result 0 ≡ not (no_session bytes)
     by true e = rw (told ∙ none_number bytes e, e)
     by false e = rw (told ∙ one_number bytes e, e)
 

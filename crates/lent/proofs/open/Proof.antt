@@ -17,38 +17,38 @@ use borrow.Author.Rules.{rules}
 use Rattle.lent.proofs.open.Statement.{statement}
 use Rattle.lent.proofs.open.Tie as tie
 
-module _ (c : tie.After-open) where
+module _ (c : tie.After-open-answer) where
   abbrev consist : List ℕ
-  consist = c.before.before.before.before.args.consist.now
+  consist = c.args.consist.now
 
   abbrev choice : Choice
-  choice = c.before.before.before.before.args.choice
+  choice = c.args.choice
 
   abbrev session : List ℕ
-  session = c.before.before.before.before.args.session.now
+  session = c.args.session.now
 
-  answers : c.«open».result ≡ open_of none_open consist choice
-  answers = answer_one _ _ c.«open».ensures ∙ ap (λ (x : Session). open_of x consist choice) (session_one _ _ c.before.none.ensures)
+  answers : c.open-answer.result ≡ open_of none_open consist choice
+  answers = answer_one _ _ c.open-answer.ensures ∙ ap (λ (x : Session). open_of x consist choice) (session_one _ _ c.none.ensures)
 
-  verdict_is : (open_of none_open consist choice).verdict ≡ c.«open».result.verdict
+  verdict_is : (open_of none_open consist choice).verdict ≡ c.open-answer.result.verdict
   verdict_is = sym (ap (λ (a : Answer). a.verdict) answers)
 
 -- what is told, past the room
-module _ (c : tie.After-with-room) where
-  abbrev opened : tie.After-open
+module _ (c : tie.After-with_room-number) where
+  abbrev opened : tie.After-open-answer
   opened = c.before.before
 
-  told_is : c.with-room.result ≡ with_room (alone (consist opened) (choice opened)) (length (session opened))
+  told_is : c.with_room-number.result ≡ with_room (alone (consist opened) (choice opened)) (length (session opened))
   told_is =
-      c.with-room.ensures
-      ∙ ap (λ (t : ℕ). with_room t (length (session opened))) (c.before.verdict-number.ensures ∙ ap number_of_verdict (sym (verdict_is opened)))
+      c.with_room-number.ensures
+      ∙ ap (λ (t : ℕ). with_room t (length (session opened))) (c.verdict_number-told.ensures ∙ ap number_of_verdict (sym (verdict_is opened)))
 
-returns : tie.Need-returns
-returns c = let k = opened c.before in open_refused (consist k) (choice k) (session k) (told_is c.before) c.if1.true
+returns : tie.Need-returns-then-number-ne0
+returns c = let k = opened c.before in open_refused (consist k) (choice k) (session k) (told_is c.before) c.if-number-ne0.true
 
 -- told 0
-accepted : (c : tie.Else1) → let k = opened c.before in with_room (alone (consist k) (choice k)) (length (session k)) ≡ 0
-accepted c = sym (told_is c.before) ∙ c.if1.false
+accepted : (c : tie.Else-number-ne0) → let k = opened c.before in with_room (alone (consist k) (choice k)) (length (session k)) ≡ 0
+accepted c = sym (told_is c.before) ∙ c.if-number-ne0.false
 
 put-requires : tie.Need-put-requires
 put-requires c κs =
@@ -56,7 +56,7 @@ put-requires c κs =
     let k = opened at.before in
     (ap (λ (a : Answer). is_open a.session) (answers k) ∙ opened_open (consist k) (choice k) (session k) (accepted at), open_room (consist k) (choice k) (session k) (accepted at))
 
-returns-2 : tie.Need-returns-2
+returns-2 : tie.Need-returns
 returns-2 c =
     let put = c.before.before in
     let at = put.before.before.before in

@@ -20,5 +20,5 @@ returns c =
 pub put_spec : {M : Type 1} → statement M
 put_spec =
     tie.close
-    (tie.spec (λ c. search rules) (λ c. sym (length-take-le most c.before.before.args.session.now c.before.before.requires.1)) (λ c κs. search rules)
+    (tie.spec (λ c. search rules) (λ c. sym (length-take-le most c.args.session.now c.requires.1)) (λ c κs. search rules)
     (λ c κs. search rules) (λ c. search rules) returns)

@@ -14,9 +14,9 @@ use Rattle.lent.proofs.sample.Statement.{statement}
 use Rattle.lent.proofs.sample.Tie as tie
 
 -- past the record's reading
-module _ (c : tie.After-read-start) where
-  abbrev lent : tie.After-shared-slice-known2
-  lent = c.before.before.before.before
+module _ (c : tie.After-read_start-found) where
+  abbrev lent : tie.After-shared_slice_known-2-1
+  lent = c.before.before.before
 
   abbrev start : tie.Start
   start = lent.before.before.before
@@ -36,67 +36,67 @@ module _ (c : tie.After-read-start) where
   abbrev decision : List ℕ
   decision = start.args.decision.now
 
-  reads : (c.read-start.result.verdict, c.read-start.result.session) ≡ read_session (record_at session)
-  reads = read_tells (c.read-start.result.verdict, c.read-start.result.session) (read_session (record_at session)) c.read-start.ensures
+  reads : (c.read_start-found.result.verdict, c.read_start-found.result.session) ≡ read_session (record_at session)
+  reads = read_tells (c.read_start-found.result.verdict, c.read_start-found.result.session) (read_session (record_at session)) c.read_start-found.ensures
 
-  is_read : (read_session (record_at session)).0 ≡ c.read-start.result.verdict
+  is_read : (read_session (record_at session)).0 ≡ c.read_start-found.result.verdict
   is_read = sym (ap (λ (r : Verdict × Session). r.0) reads)
 
-  is_held : c.read-start.result.verdict ≡ Accepted → read_session (record_at session) ≡ (Accepted, c.read-start.result.session)
-  is_held h = sym reads ∙ ap (λ (v : Verdict). (v, c.read-start.result.session)) h
+  is_held : c.read_start-found.result.verdict ≡ Accepted → read_session (record_at session) ≡ (Accepted, c.read_start-found.result.session)
+  is_held h = sym reads ∙ ap (λ (v : Verdict). (v, c.read_start-found.result.session)) h
 
-returns : tie.Need-returns
+returns : tie.Need-returns-in_default
 returns c =
-    let k = c.before.before.before in
-    let r = c.before.enum-told2.given.1 in
-    sample_unread (session k) (sample k) (profile k) (targets k) (decision k) (c.verdict-number.ensures ∙ ap number_of_verdict r) (is_read k ∙ r)
+    let k = c.before.before in
+    let r = c.in_default.is in
+    sample_unread (session k) (sample k) (profile k) (targets k) (decision k) (c.verdict_number.ensures ∙ ap number_of_verdict r) (is_read k ∙ r)
 
 -- past the call of its session
-module _ (c : tie.After-sample) where
-  abbrev record_read : tie.After-read-start
-  record_read = c.before.before.before.before.before
+module _ (c : tie.After-sample-answer) where
+  abbrev record_read : tie.After-read_start-found
+  record_read = c.before.before.before.before
 
   abbrev left : List ℕ
-  left = c.sample.new.1.1.1.1.0
+  left = c.sample-answer.new.out
 
-  held_as : read_session (record_at (session record_read)) ≡ (Accepted, record_read.read-start.result.session)
-  held_as = is_held record_read c.before.before.before.enum_told.given.1
+  held_as : read_session (record_at (session record_read)) ≡ (Accepted, record_read.read_start-found.result.session)
+  held_as = is_held record_read c.in-Accepted.is
 
-returns-2 : tie.Need-returns-2
+returns-2 : tie.Need-returns-in_default-judged
 returns-2 c =
-    let call = c.before.before.before.before.before in
+    let call = c.before.before.before.before in
     let k = record_read call in
-    let r = c.before.enum-told4.given.1 in
-    sample_refused (session k) (sample k) (profile k) (targets k) (decision k) k.read-start.result.session (held_as call)
-    call.sample.result (left call) call.sample.ensures
-    (c.verdict-number2.ensures ∙ ap number_of_verdict r)
+    let r = c.in_default-judged.is in
+    sample_refused (session k) (sample k) (profile k) (targets k) (decision k) k.read_start-found.result.session (held_as call)
+    call.sample-answer.result (left call) call.sample-answer.ensures
+    (c.verdict_number-in_default-judged.ensures ∙ ap number_of_verdict r)
     r
 
 -- accepted
-abbrev called : tie.After-enum-told3 → tie.After-sample
-called c = c.before.before.before.before
+abbrev called : tie.In-Accepted-judged → tie.After-sample-answer
+called c = c.before.before.before
 
 put-requires : tie.Need-put-requires
 put-requires c κs =
     let judged = c.before.before in
     let call = called judged in
     let k = record_read call in (
-      next_open (session k) (sample k) (profile k) (targets k) (decision k) k.read-start.result.session (held_as call)
-          call.sample.result (left call) call.sample.ensures
-          judged.enum-told3.given.1,
+      next_open (session k) (sample k) (profile k) (targets k) (decision k) k.read_start-found.result.session (held_as call)
+          call.sample-answer.result (left call) call.sample-answer.ensures
+          judged.in-Accepted-judged.is,
       whole (session k) (ap (λ (r : Verdict × Session). r.0) (held_as call)),
     )
 
-returns-3 : tie.Need-returns-3
+returns-3 : tie.Need-returns
 returns-3 c =
     let put = c.before.before in
     let judged = put.before.before.before in
     let call = called judged in
     let k = record_read call in
-    sample_accepted (session k) (sample k) (profile k) (targets k) (decision k) k.read-start.result.session (held_as call)
-    call.sample.result (left call) call.sample.ensures
+    sample_accepted (session k) (sample k) (profile k) (targets k) (decision k) k.read_start-found.result.session (held_as call)
+    call.sample-answer.result (left call) call.sample-answer.ensures
     put.put.ensures
-    judged.enum-told3.given.1
+    judged.in-Accepted-judged.is
 
 pub sample_spec : {M : Type 1} → statement M
 sample_spec =

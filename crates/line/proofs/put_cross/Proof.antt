@@ -12,15 +12,15 @@ use Rattle.line.proofs.put_cross.Statement.{statement}
 use Rattle.line.proofs.put_cross.Tie as tie
 
 -- the number, which is put first
-abbrev numbered : tie.After-put-numbers → tie.After-number
+abbrev numbered : tie.After-put_numbers-at → tie.After-number
 numbered c = c.before.before.before
 
 -- it begins where two bytes are left before it, and no byte is added
-begins : (c : tie.After-put-numbers) → let a = (numbered c).before.before.args in let line = length (spaced ((numbered c).number.result ∷ [])) in
-    (c.put-numbers.result + line ≡ a.end) × (line ≤ 11) × (length c.put-numbers.new.1.1.0 ≡ length a.out.now)
+begins : (c : tie.After-put_numbers-at) → let a = (numbered c).args in let line = length (spaced ((numbered c).number.result ∷ [])) in
+    (c.put_numbers-at.result + line ≡ a.end) × (line ≤ 11) × (length c.put_numbers-at.new.out ≡ length a.out.now)
 begins c =
     let n : length (spaced ((numbered c).number.result ∷ [])) ≤ 11 = simp length-append (omega (arith, ten_digits (numbered c).number.result (omega arith))) in
-    let p = put_at _ _ (omega arith) _ _ _ (omega arith) c.put-numbers.ensures in
+    let p = put_at _ _ (omega arith) _ _ _ (omega arith) c.put_numbers-at.ensures in
     (p.0, n, p.1)
 
 returns : tie.Need-returns
@@ -28,12 +28,12 @@ unfolding refusal_text
 returns c =
     let put = c.before.before in
     let s = numbered put in
-    let a = s.before.before.args in
-    let at = put.put-numbers.result in
-    let now = put.put-numbers.new.1.1.0 in
+    let a = s.args in
+    let at = put.put_numbers-at.result in
+    let now = put.put_numbers-at.new.out in
     let b = begins put in
     put_one (at - 1) (set now (at - 1) space) (simp length-set (omega arith)) cross (omega arith)
-    ∙ put_on _ _ (omega arith) (cross ∷ []) _ _ _ (omega arith) (put_one at now (omega arith) space (omega arith) ∙ put_on _ _ (omega arith) (space ∷ []) _ _ _ (omega arith) put.put-numbers.ensures)
+    ∙ put_on _ _ (omega arith) (cross ∷ []) _ _ _ (omega arith) (put_one at now (omega arith) space (omega arith) ∙ put_on _ _ (omega arith) (space ∷ []) _ _ _ (omega arith) put.put_numbers-at.ensures)
     ∙ ap (λ (m : ℕ). put_before (cross ∷ space ∷ spaced (m ∷ [])) a.end a.out.now) s.number.ensures
 
 pub put_cross_spec : {M : Type 1} → statement M

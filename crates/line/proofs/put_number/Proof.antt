@@ -10,12 +10,12 @@ use Rattle.line.proofs.Put.{put_one, put_on}
 use Rattle.line.proofs.put_number.Statement.{statement}
 use Rattle.line.proofs.put_number.Tie as tie
 
-abbrev invariant-loop : tie.invariant-loop
+abbrev invariant-loop : tie.invariant-loop-rest
 invariant-loop n after end out₀ at₀ rest₀ out at rest =
     (length (decimal rest) ≤ at) × (at ≤ length out) × (length out ≡ length out₀)
     × (put_before (decimal rest) at out ≡ put_before (decimal n) at₀ out₀)
 
-abbrev decreases-loop : tie.decreases-loop
+abbrev decreases-loop : tie.decreases-loop-rest
 decreases-loop n after end out₀ at₀ rest₀ out at rest = rest
 
 -- above nine, one digit more than the tenth has; below ten, one
@@ -25,42 +25,42 @@ more_room n h = ap length (decimal_more n h) ∙ simp length-append
 one_digit : (n : ℕ) → n < 10 → length (decimal n) ≡ 1
 one_digit n h = ap length (decimal_last n h)
 
-loop_holds : tie.Need-loop-init invariant-loop decreases-loop
+loop_holds : tie.Need-loop-rest-init invariant-loop decreases-loop
 loop_holds c = (omega arith, simp length-set (omega arith), refl, refl)
 
-sub-at-2 : tie.Need-overflow-sub-at-2 invariant-loop decreases-loop
-sub-at-2 c = omega (arith, more_room _ c.loop-test.true)
+sub-at-2 : tie.Need-overflow_sub-at-in-loop-rest invariant-loop decreases-loop
+sub-at-2 c = omega (arith, more_room _ c.loop-rest-test.true)
 
-slice-write-out-2 : tie.Need-slice-write-out-2 invariant-loop decreases-loop
-slice-write-out-2 c = omega (arith, more_room _ c.loop-test.true)
+slice-write-out-2 : tie.Need-bounds-out-at-in-loop-rest invariant-loop decreases-loop
+slice-write-out-2 c = omega (arith, more_room _ c.loop-rest-test.true)
 
-loop_again : tie.Need-loop-preserved invariant-loop decreases-loop
+loop_again : tie.Need-loop-rest-preserved invariant-loop decreases-loop
 loop_again c =
-    let l = c.before.loop in
-    let n = more_room l.rest c.loop-test.true in (
+    let l = c.loop-rest in
+    let n = more_room l.rest c.loop-rest-test.true in (
       omega arith,
       simp length-set (omega arith),
       simp length-set (l.invariant.2 ∙ simp length-set),
       put_on l.at l.out l.invariant.1 (decimal (l.rest / 10)) _ _ _ (omega arith) (put_one l.at l.out l.invariant.1 (glyph (l.rest % 10)) (omega arith))
-          ∙ ap (λ (t : List ℕ). put_before t l.at l.out) (sym (decimal_more l.rest c.loop-test.true)) ∙ l.invariant.3,
+          ∙ ap (λ (t : List ℕ). put_before t l.at l.out) (sym (decimal_more l.rest c.loop-rest-test.true)) ∙ l.invariant.3,
     )
 
-sub-at-3 : tie.Need-overflow-sub-at-3 invariant-loop decreases-loop
-sub-at-3 c = omega (arith, one_digit _ c.loop-test.false)
+sub-at-3 : tie.Need-overflow_sub-at-2 invariant-loop decreases-loop
+sub-at-3 c = omega (arith, one_digit _ c.loop-rest-test.false)
 
-slice-write-out-3 : tie.Need-slice-write-out-3 invariant-loop decreases-loop
-slice-write-out-3 c = omega (arith, one_digit _ c.loop-test.false)
+slice-write-out-3 : tie.Need-bounds-out-at-2 invariant-loop decreases-loop
+slice-write-out-3 c = omega (arith, one_digit _ c.loop-rest-test.false)
 
-same_length : tie.Need-same-length invariant-loop decreases-loop
-same_length c = simp length-set (c.before.loop.invariant.2 ∙ simp length-set)
+same_length : tie.Need-shape_of-out invariant-loop decreases-loop
+same_length c = simp length-set (c.loop-rest.invariant.2 ∙ simp length-set)
 
 returns : tie.Need-returns invariant-loop decreases-loop
 returns c =
-    let l = c.before.loop in
+    let l = c.loop-rest in
     let s = c.before.before in
-    let d = one_digit l.rest c.loop-test.false in
+    let d = one_digit l.rest c.loop-rest-test.false in
     put_one l.at l.out l.invariant.1 (glyph l.rest) (omega arith)
-    ∙ ap (λ (t : List ℕ). put_before t l.at l.out) (sym (decimal_last l.rest c.loop-test.false))
+    ∙ ap (λ (t : List ℕ). put_before t l.at l.out) (sym (decimal_last l.rest c.loop-rest-test.false))
     ∙ l.invariant.3
     ∙ put_on s.args.end s.args.out.now s.requires.1 (decimal s.args.n) (s.args.after ∷ []) _ _ s.requires.0 (put_one s.args.end s.args.out.now s.requires.1 s.args.after (omega arith))
 

@@ -11,30 +11,30 @@ use Rattle.line.proofs.Spaced.{Stands, none_stands, more_stands}
 use Rattle.line.proofs.put_numbers.Statement.{statement}
 use Rattle.line.proofs.put_numbers.Tie as tie
 
-abbrev invariant-loop : tie.invariant-loop
+abbrev invariant-loop : tie.invariant-loop-i
 invariant-loop ns end out₀ at₀ i₀ after₀ out at i after =
     (i ≤ length ns) × (after ≡ separator (drop i ns)) × Stands end out₀ (drop i ns) (11 * i) at out
 
-abbrev decreases-loop : tie.decreases-loop
+abbrev decreases-loop : tie.decreases-loop-i
 decreases-loop ns end out₀ at₀ i₀ after₀ out at i after = i
 
-loop_holds : tie.Need-loop-init invariant-loop decreases-loop
+loop_holds : tie.Need-loop-i-init invariant-loop decreases-loop
 loop_holds c =
-    let ns = c.before.before.args.ns.now in
+    let ns = c.args.ns.now in
     rw (drop-length ns) (omega arith, refl, none_stands _ _ (11 * length ns) (omega arith))
 
-put-number-requires : tie.Need-put-number-requires invariant-loop decreases-loop
+put-number-requires : tie.Need-put_number-at-requires invariant-loop decreases-loop
 put-number-requires c κs =
-    let i = c.before.before.before.loop.i in
-    omega (arith, ten_digits _ (c.before.shared-slice-known2.given (i - 1)).fits)
+    let i = c.loop-i.i in
+    omega (arith, ten_digits _ (c.shared_slice_known-in-loop-i-1.given (i - 1)).fits)
 
-loop_again : tie.Need-loop-preserved invariant-loop decreases-loop
+loop_again : tie.Need-loop-i-preserved invariant-loop decreases-loop
 loop_again c =
     let put = c.before.before in
     let turn = put.before.before in
     let at = turn.before.before in
-    let l = at.loop in
-    let ns = at.before.before.before.args.ns.now in
+    let l = at.loop-i in
+    let ns = at.args.ns.now in
     let j = l.i - 1 in
     let e : suc j ≡ l.i = omega arith in
     let d : drop j ns ≡ get_or ns j 0 ∷ drop l.i ns =
@@ -43,20 +43,20 @@ loop_again c =
       omega arith,
       refl,
       more_stands _ _ (drop l.i ns) l.out _ (get_or ns j 0) (11 * j) (11 * l.i) l.at _
-          (omega arith) (turn.shared-slice-known2.given j).fits (omega arith) l.invariant.2
-          (subst (λ (b : ℕ). (put.put-number.result, put.put-number.new.1.1.1.0) ≡ put_before (decimal (get_or ns j 0) ++ b ∷ []) l.at l.out)
-          l.invariant.1 put.put-number.ensures),
+          (omega arith) (turn.shared_slice_known-in-loop-i-1.given j).fits (omega arith) l.invariant.2
+          (subst (λ (b : ℕ). (put.put_number-at.result, put.put_number-at.new.out) ≡ put_before (decimal (get_or ns j 0) ++ b ∷ []) l.at l.out)
+          l.invariant.1 put.put_number-at.ensures),
     )
 
-same_length : tie.Need-same-length invariant-loop decreases-loop
-same_length c = c.before.loop.invariant.2.same
+same_length : tie.Need-shape_of-out invariant-loop decreases-loop
+same_length c = c.loop-i.invariant.2.same
 
 returns : tie.Need-returns invariant-loop decreases-loop
 returns c =
-    let e : c.before.loop.i ≡ 0 = omega arith in
-    let a = c.before.before.before.before.args in
-    subst (λ (k : ℕ). (c.before.loop.at, c.before.loop.out) ≡ put_before (spaced (drop k a.ns.now)) a.end a.out.now)
-    e c.before.loop.invariant.2.text
+    let e : c.loop-i.i ≡ 0 = omega arith in
+    let a = c.args in
+    subst (λ (k : ℕ). (c.loop-i.at, c.loop-i.out) ≡ put_before (spaced (drop k a.ns.now)) a.end a.out.now)
+    e c.loop-i.invariant.2.text
 
 pub put_numbers_spec : {M : Type 1} → statement M
 put_numbers_spec =

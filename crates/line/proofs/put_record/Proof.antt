@@ -14,29 +14,29 @@ use Rattle.line.proofs.put_record.Statement.{statement}
 use Rattle.line.proofs.put_record.Tie as tie
 
 -- by a verdict that is the reader's, the record's line
-same_line : (c : tie.After-read) (v : Verdict) → c.read.result.verdict ≡ v → let a = c.before.before.before.args in
-    put_before (record_text (v, c.read.result.decision)) a.end a.out.now ≡ put_before (record_text (read_decision a.s.now)) a.end a.out.now
+same_line : (c : tie.After-read-read) (v : Verdict) → c.read-read.result.verdict ≡ v → let a = c.args in
+    put_before (record_text (v, c.read-read.result.decision)) a.end a.out.now ≡ put_before (record_text (read_decision a.s.now)) a.end a.out.now
 same_line c v h =
-    let a = c.before.before.before.args in
-    let read = c.read.result in
+    let a = c.args in
+    let read = c.read-read.result in
     ap (λ (w : Verdict). put_before (record_text (w, read.decision)) a.end a.out.now) (sym h)
-    ∙ ap (λ (z : Verdict × Decision). put_before (record_text z) a.end a.out.now) (told_one (read.verdict, read.decision) (read_decision a.s.now) c.read.ensures)
+    ∙ ap (λ (z : Verdict × Decision). put_before (record_text z) a.end a.out.now) (told_one (read.verdict, read.decision) (read_decision a.s.now) c.read-read.ensures)
 
-returns : tie.Need-returns
+returns : tie.Need-returns-in-Refused
 returns c =
-    let refused = c.before.before.before.before.before in
-    c.before.before.put-cross.ensures ∙ same_line refused.before.before _ refused.verdict.given.1
+    let refused = c.before.before.before.before in
+    c.put_cross.ensures ∙ same_line refused.before _ refused.in-Refused.is
 
-returns-2 : tie.Need-returns-2
+returns-2 : tie.Need-returns
 unfolding decision_text
 returns-2 c =
     let accepted = c.before.before.before.before.before.before.before.before.before in
-    let read = accepted.before.before in
-    let a = read.before.before.before.args in
-    let d = read.read.result.decision in
-    c.before.before.put-numbers.ensures
+    let read = accepted.before in
+    let a = read.args in
+    let d = read.read-read.result.decision in
+    c.put_numbers.ensures
     ∙ ap (λ (n : ℕ). put_before (spaced (d.time ∷ d.state ∷ n ∷ d.cause ∷ d.stop ∷ [])) a.end a.out.now) (same_bit d.penalty)
-    ∙ same_line read Accepted accepted.enum_told.given.1
+    ∙ same_line read Accepted accepted.in_default.is
 
 pub put_record_spec : {M : Type 1} → statement M
 put_record_spec =

@@ -10,9 +10,9 @@ use Rattle.line.proofs.put_refusal.Tie as tie
 
 returns : tie.Need-returns
 returns c =
-    let a = c.before.before.args in
+    let a = c.args in
     let l : room ≡ length a.out.now = omega arith in
-    c.put-cross.ensures ∙ ap (λ (n : ℕ). put_before (refusal_text a.r) n a.out.now) l
+    c.put_cross.ensures ∙ ap (λ (n : ℕ). put_before (refusal_text a.r) n a.out.now) l
 
 pub put_refusal_spec : {M : Type 1} → statement M
 put_refusal_spec = tie.close (tie.spec (λ c κs. search rules) returns)

@@ -52,51 +52,51 @@ module _ (s : List ℕ) (first both : ℕ) (f : first ≡ min (length s) size) (
 
 -- ---- the lines
 
-returns : tie.Need-returns
+returns : tie.Need-returns-in-Refused
 returns c =
-    let refused = c.before.before.before in
-    let a = refused.before.before.before.args in
-    c.put-refusal.ensures ∙ ap (λ (v : Verdict). put_last (sample_text v a.s.now) a.out.now) (sym refused.v.given.1)
+    let refused = c.before.before in
+    let a = refused.args in
+    c.put_refusal.ensures ∙ ap (λ (v : Verdict). put_last (sample_text v a.s.now) a.out.now) (sym refused.in-Refused.is)
 
-slice-aggregate-put-record : tie.Need-slice-aggregate-put-record
+slice-aggregate-put-record : tie.Need-slice_bounds-put_record-end-3
 slice-aggregate-put-record c = sym (length-take-le _ _ (omega arith))
 
 -- past the verdict
-abbrev passed : tie.After-put-record → tie.After-enum-told
+abbrev passed : tie.After-put_record-second_line → tie.In_default
 passed c = c.before.before.before.before.before
 
-cut : (c : tie.After-put-record) → let s = (passed c).before.before.before.args.s.now in
-    (c.before.before.before.before.at_most.result ≡ min (length s) size) × (c.before.before.before.at-most2.result ≡ min (length s) both_size)
-cut c = (c.before.before.before.before.at_most.ensures, c.before.before.before.at-most2.ensures)
+cut : (c : tie.After-put_record-second_line) → let s = (passed c).args.s.now in
+    (c.at_most-first.result ≡ min (length s) size) × (c.at_most-both.result ≡ min (length s) both_size)
+cut c = (c.at_most-first.ensures, c.at_most-both.ensures)
 
 -- the second record's line
-second_put : (c : tie.After-put-record) → let a = (passed c).before.before.before.args in
-    (c.put_record.result, c.put_record.new.1.1.0) ≡ put_before (record_text (read_decision (second_record a.s.now))) room a.out.now
+second_put : (c : tie.After-put_record-second_line) → let a = (passed c).args in
+    (c.put_record-second_line.result, c.put_record-second_line.new.out) ≡ put_before (record_text (read_decision (second_record a.s.now))) room a.out.now
 second_put c =
-    let a = (passed c).before.before.before.args in
-    c.put_record.ensures
+    let a = (passed c).args in
+    c.put_record-second_line.ensures
     ∙ ap (λ (l : List ℕ). put_before (record_text (read_decision l)) room a.out.now) (second_cut a.s.now _ _ (cut c).0 (cut c).1)
 
 -- the second record's line leaves room for the first's, and no byte is added
-begins : (c : tie.After-put-record) → (line_room ≤ c.put_record.result) × (c.put_record.result ≤ length c.put_record.new.1.1.0)
+begins : (c : tie.After-put_record-second_line) → (line_room ≤ c.put_record-second_line.result) × (c.put_record-second_line.result ≤ length c.put_record-second_line.new.out)
 begins c =
-    let a = (passed c).before.before.before.args in
+    let a = (passed c).args in
     let p = put_at room a.out.now (omega arith) _ _ _ (omega (arith, record_fits (second_record a.s.now))) (second_put c) in
     omega (arith, p, record_fits (second_record a.s.now))
 
-returns-2 : tie.Need-returns-2
+returns-2 : tie.Need-returns
 returns-2 c =
     let put = c.before.before.before in
-    let accepted = passed put in
-    let a = accepted.before.before.before.args in
+    let accepted = passed c.before.before in
+    let a = accepted.args in
     let first = record_text (read_decision (first_record a.s.now)) in
     let second = record_text (read_decision (second_record a.s.now)) in
     let l : room ≡ length a.out.now = omega arith in
-    c.put-record2.ensures
-    ∙ ap (λ (t : List ℕ). put_before (record_text (read_decision t)) put.put_record.result put.put_record.new.1.1.0) (first_cut a.s.now _ _ (cut put).0 (cut put).1)
-    ∙ put_on room a.out.now (omega arith) first second _ _ (omega (arith, record_fits (first_record a.s.now), record_fits (second_record a.s.now))) (second_put put)
+    c.put_record.ensures
+    ∙ ap (λ (t : List ℕ). put_before (record_text (read_decision t)) c.put_record-second_line.result c.put_record-second_line.new.out) (first_cut a.s.now _ _ (cut c.before.before).0 (cut c.before.before).1)
+    ∙ put_on room a.out.now (omega arith) first second _ _ (omega (arith, record_fits (first_record a.s.now), record_fits (second_record a.s.now))) (second_put c.before.before)
     ∙ ap (λ (n : ℕ). put_before (first ++ second) n a.out.now) l
-    ∙ ap (λ (v : Verdict). put_last (sample_text v a.s.now) a.out.now) (sym accepted.enum_told.given.1)
+    ∙ ap (λ (v : Verdict). put_last (sample_text v a.s.now) a.out.now) (sym accepted.in_default.is)
 
 pub put_sample_spec : {M : Type 1} → statement M
 put_sample_spec =
@@ -104,4 +104,4 @@ put_sample_spec =
     (tie.spec
     (λ c. search rules) (λ c κs. search rules) returns
     (λ c. search rules) (λ c κs. search rules) (λ c κs. search rules) (λ c. search rules) (λ c. search rules) (λ c. search rules) (λ c κs. search rules)
-    slice-aggregate-put-record (λ c κs. begins c.before.before) returns-2)
+    slice-aggregate-put-record (λ c κs. begins c.before) returns-2)

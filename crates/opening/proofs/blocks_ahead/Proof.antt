@@ -19,7 +19,7 @@ unfolding blocks_ahead
 from_zero r s e = e ∙ ap (λ (b : Bool). cond (eqb (length s) blocks_count_size && (b && leb (num s) most)) (Bytes (size * num s)) Broken) (leb-zero (num s))
 
 returns : tie.Need-returns
-returns c = from_zero _ c.before.before.args.count.now c.announced.ensures
+returns c = from_zero _ c.args.count.now c.announced.ensures
 
 pub blocks_ahead_spec : {M : Type 1} → statement M
 blocks_ahead_spec = tie.close (tie.spec (λ c κs. search rules) returns)

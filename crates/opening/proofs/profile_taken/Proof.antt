@@ -12,9 +12,9 @@ use Rattle.opening.proofs.profile_taken.Tie as tie
 
 returns : tie.Need-returns
 returns c =
-    let s = c.before.before.before.args in
-    let j = c.before.judge.result in
-    let told = told_one (j.verdict, j.records) (judge_profile s.p.now) c.before.judge.ensures in
+    let s = c.args in
+    let j = c.judge-judged.result in
+    let told = told_one (j.verdict, j.records) (judge_profile s.p.now) c.judge-judged.ensures in
     c.taken.ensures ∙ ap (λ (z : Verdict × ℕ). taken s.ahead (length s.p.now) (is_accepted z.0)) told
 
 pub profile_taken_spec : {M : Type 1} → statement M

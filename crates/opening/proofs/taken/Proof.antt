@@ -9,28 +9,26 @@ use Rattle.opening.specs.Opening.{taken}
 use Rattle.opening.proofs.taken.Statement.{statement}
 use Rattle.opening.proofs.taken.Tie as tie
 
-returns : tie.Need-returns
+returns : tie.Need-returns-in_default
 unfolding taken
 returns c = search rules
 
-returns-2 : tie.Need-returns-2
+returns_2 : tie.Need-returns-then-came-size
 unfolding taken
-returns-2 c =
-    let ahead = c.before.before.ahead.given in
-    rw (ahead.1, ne_eqb c.before.before.before.before.args.came ahead.0.0 (λ e. omega arith))
+returns_2 c = rw (c.in-Bytes.is, ne_eqb c.args.came c.in-Bytes.size (λ e. omega arith))
 
 -- all that was announced came
-all_came : (c : tie.Else1) → eqb c.before.before.before.before.args.came c.before.before.ahead.given.0.0 ≡ true
-all_came c = eq-eqb c.before.before.before.before.args.came c.before.before.ahead.given.0.0 (omega arith)
+all_came : (c : tie.Else-came-size) → eqb c.args.came c.in-Bytes.size ≡ true
+all_came c = eq-eqb c.args.came c.in-Bytes.size (omega arith)
 
-returns-3 : tie.Need-returns-3
+returns_3 : tie.Need-returns-in-Accepted
 unfolding taken
-returns-3 c = rw (c.before.before.before.before.ahead.given.1, all_came c.before.before, c.enum-told2.given.1)
+returns_3 c = rw (c.in-Bytes.is, all_came c.before, c.in-Accepted.is)
 
-returns-4 : tie.Need-returns-4
+returns_4 : tie.Need-returns-in-Refused
 unfolding taken
-returns-4 c = rw (c.before.before.before.before.ahead.given.1, all_came c.before.before, c.enum-told3.given.1)
+returns_4 c = rw (c.in-Bytes.is, all_came c.before, c.in-Refused.is)
 
 pub taken_spec : {M : Type 1} → statement M
 taken_spec =
-    tie.close (tie.spec (λ c. search rules) (λ c. search rules) returns returns-2 (λ c. search rules) (λ c. search rules) returns-3 returns-4)
+    tie.close (tie.spec (λ c. search rules) (λ c. search rules) returns returns_2 (λ c. search rules) (λ c. search rules) returns_3 returns_4)

@@ -59,11 +59,11 @@ module _ (x : Approach) (e : Emergency) (stood : ℕ) (t : List ℕ) (walked : P
 
 -- ---- the calls
 
-module _ (w : tie.After-predict) where
-  abbrev listed : tie.After-list-targets
+module _ (w : tie.After-predict-found) where
+  abbrev listed : tie.After-list_targets-targets
   listed = w.before.before.before
 
-  abbrev drawn : tie.After-penalty
+  abbrev drawn : tie.After-penalty-curve
   drawn = listed.before
 
   abbrev start : tie.Start
@@ -78,48 +78,48 @@ module _ (w : tie.After-predict) where
   abbrev emergency : Emergency
   emergency = let a = start.args in emergency_over a.c a.k a.m track
 
-  found : w.predict.result ≡ prediction_of approach (speeds_in start.args.t.now most)
+  found : w.predict-found.result ≡ prediction_of approach (speeds_in start.args.t.now most)
   found =
       let a = start.args in
-      walk_is a.c a.k a.m a.t.now track listed.list-targets.result listed.list-targets.ensures drawn.penalty.result
-      w.predict.result drawn.penalty.ensures w.predict.ensures
+      walk_is a.c a.k a.m a.t.now track listed.list_targets-targets.result listed.list_targets-targets.ensures drawn.penalty-curve.result
+      w.predict-found.result drawn.penalty-curve.ensures w.predict-found.ensures
 
-called : (c : tie.After-cause) → let w = c.before.before in c.cause.result ≡ call_of (approach w) (start w).args.t.now
+called : (c : tie.After-cause-called) → let w = c.before.before in c.cause-called.result ≡ call_of (approach w) (start w).args.t.now
 called c =
     let w = c.before.before in
     let a = (start w).args in
-    cause_is a.c a.k a.m a.t.now (track w) (listed w).list-targets.result (listed w).list-targets.ensures w.predict.result
-    c.cause.result (found w) c.cause.ensures
+    cause_is a.c a.k a.m a.t.now (track w) (listed w).list_targets-targets.result (listed w).list_targets-targets.ensures w.predict-found.result
+    c.cause-called.result (found w) c.cause-called.ensures
 
-predict-requires : tie.Need-predict-requires
+predict-requires : tie.Need-predict-found-requires
 predict-requires c κs =
     let d = c.before.before.before in
-    let p = d.before.before.requires in
-    (rw d.penalty.ensures p.0, p.1.1)
+    let p = d.requires in
+    (rw d.penalty-curve.ensures p.0, p.1.1)
 
-emergency_stop_requires : tie.Need-stop-in-emergency-requires
-emergency_stop_requires c κs = (start c.before.before.before.before).pre.1
+emergency_stop_requires : tie.Need-stop_in_emergency-emergency_stop-requires
+emergency_stop_requires c κs = (start c.before.before.before.before).requires.1
 
-returns : tie.Need-returns
+returns : tie.Need-returns-then-standing-eq0
 returns c =
     let judged = c.before.before in
     let w = judged.before.before in
     let a = (start w).args in
-    before_penalty (approach w) (emergency w) a.stood a.t.now w.predict.result judged.cause.result (found w) (called judged)
-    (sym c.before.standing.ensures ∙ c.if1.true)
+    before_penalty (approach w) (emergency w) a.stood a.t.now w.predict-found.result judged.cause-called.result (found w) (called judged)
+    (sym c.standing.ensures ∙ c.if-standing-eq0.true)
 
-returns-2 : tie.Need-returns-2
+returns-2 : tie.Need-returns
 returns-2 c =
     let tested = c.before.before in
     let judged = tested.before.before in
     let w = judged.before.before in
     let a = (start w).args in
-    let stop = c.before.stop-in-emergency in
-    behind_penalty (approach w) (emergency w) a.stood a.t.now w.predict.result judged.cause.result (found w) (called judged)
-    stop.result c.emergency-cause.result stop.ensures
-    (emergency_is a.c a.k a.m a.t.now (track w) (listed w).list-targets.result (listed w).list-targets.ensures stop.result
-    c.emergency-cause.result stop.ensures c.emergency-cause.ensures)
-    (λ z. tested.if1.false (tested.before.standing.ensures ∙ z))
+    let stop = c.stop_in_emergency-emergency_stop in
+    behind_penalty (approach w) (emergency w) a.stood a.t.now w.predict-found.result judged.cause-called.result (found w) (called judged)
+    stop.result c.emergency_cause-emergency_called.result stop.ensures
+    (emergency_is a.c a.k a.m a.t.now (track w) (listed w).list_targets-targets.result (listed w).list_targets-targets.ensures stop.result
+    c.emergency_cause-emergency_called.result stop.ensures c.emergency_cause-emergency_called.ensures)
+    (λ z. tested.if-standing-eq0.false (tested.standing.ensures ∙ z))
 
 pub over_track_spec : {M : Type 1} → statement M
 over_track_spec =

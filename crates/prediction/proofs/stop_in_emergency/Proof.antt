@@ -20,10 +20,10 @@ use Rattle.prediction.specs.Prediction.{emergency_over}
 use Rattle.prediction.proofs.stop_in_emergency.Statement.{statement}
 use Rattle.prediction.proofs.stop_in_emergency.Tie as tie
 
-predict-requires : tie.Need-predict-requires
+predict-requires : tie.Need-predict-found-requires
 predict-requires c κs =
-    let p = c.before.before.requires in
-    (rw (c.emergency.ensures, c.before.in-emergency.ensures) p.0, p.1)
+    let p = c.requires in
+    (rw (c.emergency-curve.ensures, c.in_emergency-air.ensures) p.0, p.1)
 
 -- from the air, the curve and the walk, by the calls
 together : (c : Consist) (k : Brake) (m : Sample) (t : Track) (air : Air) (curve : Curve) (speeds : List ℕ) (found : Prediction)
@@ -37,9 +37,9 @@ returns : tie.Need-returns
 returns c =
     let drawn = c.before in
     let started = drawn.before in
-    let a = started.before.args in
-    together a.c a.k a.m (track_of a.count a.starts.now a.grades.now a.curvatures.now) started.in-emergency.result drawn.emergency.result _ c.predict.result started.in-emergency.ensures
-    drawn.emergency.ensures c.predict.ensures
+    let a = started.args in
+    together a.c a.k a.m (track_of a.count a.starts.now a.grades.now a.curvatures.now) started.in_emergency-air.result drawn.emergency-curve.result _ c.predict-found.result started.in_emergency-air.ensures
+    drawn.emergency-curve.ensures c.predict-found.ensures
 
 pub stop_in_emergency_spec : {M : Type 1} → statement M
 stop_in_emergency_spec = tie.close (tie.spec (λ c κs. search rules) (λ c κs. search rules) predict-requires returns)

@@ -12,7 +12,7 @@ returns : tie.Need-returns
 unfolding in_range
 returns c =
     let told = c.before.before.before in
-    let g = told.before.before.before.before.args.g in
+    let g = told.args.g in
     let z : to_z w16 (of_z w16 g.grade) ≡ g.grade = search rules in
     rw (z, both_ends g.grade) refl
 

@@ -17,13 +17,13 @@ more c =
     let grade_is : to_z w16 (of_z w16 c.args.grade) ≡ c.args.grade = search rules in
     rw grade_is (lifted c.args.grade c.requires)
 
-add-result : tie.Need-overflow-add-result
+add-result : tie.Need-overflow_add-result
 add-result c = rw (more c) (record { sfits = omega (arith, lowest_bits c.args.grade c.requires) })
 
 sum : (c : tie.Start) → to_z w16 (of_z w16 (to_z w16 (of_z w16 c.args.grade) +ℤ pos 2048)) ≡ pos (raised c.args.grade)
 sum c = to_z-of_z (add-result c) ∙ more c
 
-cast-result : tie.Need-overflow-cast-result
+cast-result : tie.Need-overflow_cast-result
 cast-result c = rw (sum c) (tt, record { fits = omega (arith, lowest_bits c.args.grade c.requires) })
 
 returns : tie.Need-returns

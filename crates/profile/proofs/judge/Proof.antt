@@ -10,15 +10,15 @@ use Rattle.profile.specs.Profile.{segments}
 use Rattle.profile.proofs.judge.Statement.{statement}
 use Rattle.profile.proofs.judge.Tie as tie
 
-returns : tie.Need-returns
+returns : tie.Need-returns-in_default
 returns c =
-    let no = off_unless _ (sym c.enum-told2.given.1 ∙ c.before.before.unless.ensures) in
-    ap told (sym (judge_is segments _ false (sym c.before.before.before.bytes-keep.ensures ∙ not-true _ no)))
+    let no = off_unless _ (sym c.in_default.is ∙ c.unless.ensures) in
+    ap told (sym (judge_is segments _ false (sym c.bytes_keep.ensures ∙ not-true _ no)))
 
-returns-2 : tie.Need-returns-2
+returns-2 : tie.Need-returns
 returns-2 c =
-    let yes = on_unless _ (sym c.enum_told.given.1 ∙ c.before.before.unless.ensures) in
-    ap told (sym (judge_is segments _ true (sym c.before.before.before.bytes-keep.ensures ∙ not-false _ yes)))
+    let yes = on_unless _ (sym c.in-On.is ∙ c.unless.ensures) in
+    ap told (sym (judge_is segments _ true (sym c.bytes_keep.ensures ∙ not-false _ yes)))
 
 pub judge_spec : {M : Type 1} → statement M
 judge_spec = tie.close (tie.spec (λ c κs. tt) (λ c κs. tt) (λ c. omega arith) (λ c. omega arith) returns returns-2)

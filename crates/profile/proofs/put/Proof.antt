@@ -12,18 +12,18 @@ use Rattle.profile.proofs.put.Statement.{statement}
 use Rattle.profile.proofs.put.Tie as tie
 
 -- the grade as the machine holds it
-grade_is : (c : tie.After-struct-told) → to_z w16 (of_z w16 c.before.before.before.args.g.grade) ≡ c.before.before.before.args.g.grade
+grade_is : (c : tie.After-struct_told-1) → to_z w16 (of_z w16 c.args.g.grade) ≡ c.args.g.grade
 grade_is c = search rules
 
-grade-bits-requires : tie.Need-grade-bits-requires
-grade-bits-requires c κs = rw (grade_is c) (in_eleven c.before.before.before.args.g.grade (ranged c.before.before.before.args.g c.before.before.before.requires).grade)
+grade-bits-requires : tie.Need-grade_bits-requires
+grade-bits-requires c κs = rw (grade_is c) (in_eleven c.args.g.grade (ranged c.args.g c.requires).grade)
 
 returns : tie.Need-returns
 returns c =
     let fields = c.before.before in
     let bits = fields.before.before.before.before.before in
-    let a = bits.before.before.before.before.args in
-    rw (fields.put-fields.ensures, bits.grade-bits.ensures, grade_is bits.before) (refl {a = put_from 0 widths (fields_of a.g) a.out.now})
+    let a = bits.args in
+    rw (fields.put_fields.ensures, bits.grade_bits.ensures, grade_is bits.before) (refl {a = put_from 0 widths (fields_of a.g) a.out.now})
 
 pub put_spec : {M : Type 1} → statement M
 put_spec =

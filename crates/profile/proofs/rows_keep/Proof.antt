@@ -1,6 +1,6 @@
 -- `profile::rows_keep` meets its contract: the records before k are judged, and `before` is the start of the last of them. Assumes nothing.
 use mathlib.Core.Path.{◌≡◌, refl, sym, ap, ◌∙◌}
-use mathlib.Core.Bool.{true}
+use mathlib.Core.Bool.{not, true}
 use Prim.Native.Nat.{◌-◌, ◌≤◌}
 use native.Mathlib.Omega.{arith}
 use lib.ListN.{length}
@@ -12,47 +12,47 @@ use Rattle.profile.proofs.Sound.{ends_is, counted_is, lengths}
 use Rattle.profile.proofs.rows_keep.Statement.{statement}
 use Rattle.profile.proofs.rows_keep.Tie as tie
 
-abbrev invariant-loop : tie.invariant-loop
+abbrev invariant-loop : tie.invariant-loop-k
 invariant-loop starts grades curvatures rows last good₀ before₀ k₀ good before k = Judged segments rows (segment_of starts grades curvatures) (λ i. true) k good before
 
-abbrev decreases-loop : tie.decreases-loop
+abbrev decreases-loop : tie.decreases-loop-k
 decreases-loop starts grades curvatures rows last good₀ before₀ k₀ good before k = rows - k
 
-returns : tie.Need-returns invariant-loop decreases-loop
+returns : tie.Need-returns-then-not-grades-rows invariant-loop decreases-loop
 returns c =
-    let a = c.before.before.before.args in
+    let a = c.args in
     let b = same a.starts.now a.grades.now a.curvatures.now in
-    sym (lawful_wrong segments _ (segment_of a.starts.now a.grades.now a.curvatures.now) (λ i. true) b (counted_is b (length a.starts.now)) c.if1.true)
+    sym (lawful_wrong segments _ (segment_of a.starts.now a.grades.now a.curvatures.now) (λ i. true) b (counted_is b (length a.starts.now)) (ap not c.if-not-grades-rows.true))
 
 -- past the number of records
-known : (c : tie.Else1 invariant-loop decreases-loop)
-    → let a = c.before.before.before.args in
+known : (c : tie.Else-not-grades-rows invariant-loop decreases-loop)
+    → let a = c.args in
     (fewest ≤ length a.starts.now) × (length a.grades.now ≡ length a.starts.now) × (length a.curvatures.now ≡ length a.starts.now)
 known c =
-    let a = c.before.before.before.args in
+    let a = c.args in
     let b = same a.starts.now a.grades.now a.curvatures.now in
     let n = length a.starts.now in
-    let h = sym (counted_is b n) ∙ not-false _ c.if1.false in
+    let h = sym (counted_is b n) ∙ c.if-not-grades-rows.false in
     let l = lengths a.starts.now a.grades.now a.curvatures.now (and-true_left b (counted n) h) in
     ((counted_range segments n (and-true_right b (counted n) h)).0, l.0, l.1)
 
-loop_again : tie.Need-loop-preserved invariant-loop decreases-loop
+loop_again : tie.Need-loop-k-preserved invariant-loop decreases-loop
 loop_again c =
-    let l = c.before.before.before.loop in
-    judged_next segments _ _ _ l.k l.good l.before _ _ _ l.invariant c.before.before.loop-test.true c.before.row_at.ensures refl c.good-after.ensures
+    let l = c.loop-k in
+    judged_next segments _ _ _ l.k l.good l.before _ _ _ l.invariant c.loop-k-test.true c.row_at-g.ensures refl c.good_after-good.ensures
 
-returns-2 : tie.Need-returns-2 invariant-loop decreases-loop
+returns-2 : tie.Need-returns invariant-loop decreases-loop
 returns-2 c =
     let end = c.before.before.before in
     let number = end.before.before.before in
-    let a = number.before.before.before.args in
+    let a = number.args in
     let n = length a.starts.now in
     let f = segment_of a.starts.now a.grades.now a.curvatures.now in
     let b = same a.starts.now a.grades.now a.curvatures.now in
-    let l = end.before.before.loop in
+    let l = end.loop-k in
     sym
-    (lawful_judged segments n f (λ i. true) b (counted_is b n) number.if1.false l.k l.good l.before _ l.invariant end.before.loop-test.false
-    (ends_is end.row-at2.result c.before.struct_told.given.1.0.1 ∙ ap ends {y = f (n - 1)} end.row-at2.ensures ∙ closed_last segments n f (omega (arith, known number))))
+    (lawful_judged segments n f (λ i. true) b (counted_is b n) (ap not number.if-not-grades-rows.false) l.k l.good l.before _ l.invariant end.loop-k-test.false
+    (ends_is end.row_at-end.result c.struct_told-1.given.1.0.1 ∙ ap ends {y = f (n - 1)} end.row_at-end.ensures ∙ closed_last segments n f (omega (arith, known number))))
 
 pub rows_keep_spec : {M : Type 1} → statement M
 rows_keep_spec =

@@ -14,9 +14,9 @@ use Rattle.profile.proofs.segment_at.Tie as tie
 returns : tie.Need-returns
 unfolding record_at
 returns c =
-    let grade = c.before.grade-of in
-    rw (c.before.before.before.field.ensures.0, to_z-of_z {w = w16} {z = grade.result} (sfits_of grade.type-inv), grade.ensures, c.before.before.field2.ensures.0, c.field3.ensures.0)
-    (ap of_fields (fields_at_lem segments facts _ _ _ c.before.before.before.before.record.ensures))
+    let grade = c.grade_of in
+    rw (c.field.ensures.0, to_z-of_z {w = w16} {z = grade.result} (sfits_of grade.type_inv), grade.ensures, c.field-2.ensures.0, c.field-3.ensures.0)
+    (ap of_fields (fields_at_lem segments facts _ _ _ c.record-s.ensures))
 
 pub segment_at_spec : {M : Type 1} → statement M
 segment_at_spec =

@@ -18,22 +18,22 @@ uncounted : (sampled : Bool) (last time : ℕ) → (sampled && ltb last time) �
 uncounted true last time h = omega (arith, ltb-false last time h)
 uncounted false last time h = refl
 
-sub-result : tie.Need-overflow-sub-result
+sub-result : tie.Need-overflow_sub-result
 sub-result c =
-    let start = c.before.before.before.before.args in
-    (counted start.k.sampled start.k.last_time start.time c.before.if1.true).0
+    let start = c.args in
+    (counted start.k.sampled start.k.last_time start.time c.if-k-time.true).0
 
-returns : tie.Need-returns
+returns : tie.Need-returns-then-k-time
 unfolding elapsed_of
 returns c =
-    let start = c.before.before.before.before.args in
-    (counted start.k.sampled start.k.last_time start.time c.before.if1.true).1
+    let start = c.args in
+    (counted start.k.sampled start.k.last_time start.time c.if-k-time.true).1
 
-returns-2 : tie.Need-returns-2
+returns-2 : tie.Need-returns-else-k-time
 unfolding elapsed_of
 returns-2 c =
-    let start = c.before.before.before.args in
-    uncounted start.k.sampled start.k.last_time start.time c.if1.false
+    let start = c.args in
+    uncounted start.k.sampled start.k.last_time start.time c.if-k-time.false
 
 pub elapsed_spec : {M : Type 1} → statement M
 elapsed_spec = tie.close (tie.spec sub-result returns returns-2)

@@ -13,7 +13,7 @@ above-requires c κs = search rules
 returns : tie.Need-returns
 unfolding application
 returns c =
-    let rate = c.before.args.rate in
+    let rate = c.args.rate in
     let same : to_z w64 (of_z w64 rate) ≡ rate = search rules in
     rw (same, c.above.ensures)
 

@@ -6,13 +6,13 @@ use Rattle.reading.specs.Readings.{is_kept}
 use Rattle.reading.proofs.is_kept.Statement.{statement}
 use Rattle.reading.proofs.is_kept.Tie as tie
 
-returns : tie.Need-returns
+returns : tie.Need-returns-in-Never
 unfolding is_kept
-returns c = ap (λ (h : Heard). is_kept h c.before.before.args.time) (sym c.enum_told.given.1)
+returns c = ap (λ (h : Heard). is_kept h c.args.time) (sym c.in-Never.is)
 
-returns-2 : tie.Need-returns-2
+returns-2 : tie.Need-returns-in-At
 unfolding is_kept
-returns-2 c = ap (λ (h : Heard). is_kept h c.before.before.before.args.time) (sym c.before.heard.given.1)
+returns-2 c = ap (λ (h : Heard). is_kept h c.args.time) (sym c.in-At.is)
 
 pub is_kept_spec : {M : Type 1} → statement M
 is_kept_spec = tie.close (tie.spec (λ c. search rules) (λ c. search rules) (λ c. search rules) (λ c. search rules) returns returns-2)

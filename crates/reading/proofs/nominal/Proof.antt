@@ -11,12 +11,12 @@ above-requires c κs = search rules
 above-requires-2 : tie.Need-above-requires-2
 above-requires-2 c κs = search rules
 
-cast-result : tie.Need-overflow-cast-result
+cast-result : tie.Need-overflow_cast-result
 cast-result c = search rules
 
 returns : tie.Need-returns
 unfolding nominal_of
-returns c = omega (arith, c.above2.ensures, c.before.above.ensures)
+returns c = omega (arith, c.above-2.ensures, c.above.ensures)
 
 pub nominal_spec : {M : Type 1} → statement M
 nominal_spec = tie.close (tie.spec above-requires above-requires-2 cast-result returns)

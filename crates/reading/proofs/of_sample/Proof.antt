@@ -1,4 +1,5 @@
 -- `reading::of_sample` meets its contract. Assumes nothing.
+use mir.Syntax.{w64}
 use mir.Facts.{to_z-of_z}
 use borrow.Author.Rules.{rules, sfits_of}
 use Rattle.reading.specs.Readings.{reading_of}
@@ -10,14 +11,14 @@ unfolding reading_of
 returns c =
     let rated = c.before.before.before.before.before in
     rw (
-      c.before.before.before.before.elapsed.ensures,
-      c.before.before.before.nominal.ensures,
-      c.before.before.is-application.ensures,
-      c.before.is-release.ensures,
-      c.is-emergency.ensures,
-      to_z-of_z {z = rated.rate.result} (sfits_of rated.rate.type-inv),
-      rated.rate.ensures,
-      rated.before.rear-taken.ensures,
+      c.elapsed.ensures,
+      c.nominal.ensures,
+      c.is_application.ensures,
+      c.is_release.ensures,
+      c.is_emergency.ensures,
+      to_z-of_z {w = w64} {z = rated.rate-rate.result} (sfits_of rated.rate-rate.type_inv),
+      rated.rate-rate.ensures,
+      rated.rear_taken-rear.ensures,
     )
 
 pub of_sample_spec : {M : Type 1} → statement M

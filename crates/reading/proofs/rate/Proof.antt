@@ -21,43 +21,43 @@ none_elapsed z true n = refl
 none_elapsed (pos a) false n = refl
 none_elapsed (negsuc a) false n = refl
 
-module _ (c : tie.After-struct-known) where
-  front : Holds w64 c.before.before.args.front (pos c.before.before.args.front)
+module _ (c : tie.After-struct_known-1) where
+  front : Holds w64 c.args.front (pos c.args.front)
   front = nat_holds (omega arith)
 
-  last : Holds w64 c.before.before.args.k.last_front (pos c.before.before.args.k.last_front)
+  last : Holds w64 c.args.k.last_front (pos c.args.k.last_front)
   last = nat_holds (omega arith)
 
-  difference : SFits w64 (pos c.before.before.args.front -ℤ pos c.before.before.args.k.last_front)
-  difference = fits_abs (omega (arith, abs_sub (pos c.before.before.args.front) (pos c.before.before.args.k.last_front)))
+  difference : SFits w64 (pos c.args.front -ℤ pos c.args.k.last_front)
+  difference = fits_abs (omega (arith, abs_sub (pos c.args.front) (pos c.args.k.last_front)))
 
-elapsed-requires : tie.Need-elapsed-requires
+elapsed-requires : tie.Need-elapsed-elapsed-requires
 elapsed-requires c κs = search rules
 
-cast-floor-div : tie.Need-overflow-cast-floor-div
+cast-floor-div : tie.Need-overflow_cast-front
 cast-floor-div c = search rules
 
-cast-floor-div-2 : tie.Need-overflow-cast-floor-div-2
+cast-floor-div-2 : tie.Need-overflow_cast-k
 cast-floor-div-2 c = search rules
 
-sub-floor-div : tie.Need-overflow-sub-floor-div
+sub-floor-div : tie.Need-overflow_sub-front
 sub-floor-div c = op_fits ◌-ℤ◌ (front c) (last c) (difference c)
 
-cast-floor-div-3 : tie.Need-overflow-cast-floor-div-3
+cast-floor-div-3 : tie.Need-overflow_cast-elapsed
 cast-floor-div-3 c = search rules
 
-floor-div-requires : tie.Need-floor-div-requires
+floor-div-requires : tie.Need-floor_div-requires
 floor-div-requires c κs = search rules
 
 returns : tie.Need-returns
 unfolding elapsed_of rate_of
 returns c =
-    let start = c.before.before.before.args in
+    let start = c.args in
     let z : ℤ = pos start.front -ℤ pos start.k.last_front in
-    to_z-of_z {z = c.floor-div.result} (sfits_of c.floor-div.type-inv)
-    ∙ c.floor-div.ensures
-    ∙ both floor_div (op_holds ◌-ℤ◌ (front c.before) (last c.before) (difference c.before)) (nat_holds (omega (arith, c.before.before.elapsed.type-inv)))
-    ∙ ap (λ (n : ℕ). floor_div z (pos n)) c.before.before.elapsed.ensures
+    to_z-of_z {w = w64} {z = c.floor_div.result} (sfits_of c.floor_div.type_inv)
+    ∙ c.floor_div.ensures
+    ∙ both floor_div (op_holds ◌-ℤ◌ (front c.before) (last c.before) (difference c.before)) (nat_holds (omega (arith, c.elapsed-elapsed.type_inv)))
+    ∙ ap (λ (n : ℕ). floor_div z (pos n)) c.elapsed-elapsed.ensures
     ∙ none_elapsed z start.k.sampled _
 
 pub rate_spec : {M : Type 1} → statement M

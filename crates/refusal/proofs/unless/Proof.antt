@@ -4,11 +4,11 @@ use Rattle.refusal.specs.Steps.{step_of}
 use Rattle.refusal.proofs.unless.Statement.{statement}
 use Rattle.refusal.proofs.unless.Tie as tie
 
-returns : tie.Need-returns
-returns c = sym (ap step_of c.if1.true)
+returns : tie.Need-returns-then-broken
+returns c = sym (ap step_of c.if-broken.true)
 
-returns-2 : tie.Need-returns-2
-returns-2 c = sym (ap step_of c.if1.false)
+returns-2 : tie.Need-returns-else-broken
+returns-2 c = sym (ap step_of c.if-broken.false)
 
 pub unless_spec : {M : Type 1} → statement M
 unless_spec = tie.close (tie.spec returns returns-2)

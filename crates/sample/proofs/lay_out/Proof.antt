@@ -15,31 +15,31 @@ use Rattle.sample.proofs.lay_out.Statement.{statement}
 use Rattle.sample.proofs.lay_out.Tie as tie
 
 -- past the length: the fields that are read are those of the record
-past_length : (c : tie.After-enum-told)
-    → (wrong_length size c.before.before.before.before.args.s.now ≡ false) × (fields_from 0 widths c.before.before.before.before.args.s.now ≡ fields_in widths c.before.before.before.before.args.s.now)
+past_length : (c : tie.In-On)
+    → (wrong_length size c.args.s.now ≡ false) × (fields_from 0 widths c.args.s.now ≡ fields_in widths c.args.s.now)
 unfolding wrong_length
 past_length c =
-    let s = c.before.before.before.before.args.s.now in
-    let l = on_unless _ (sym c.enum_told.given.1 ∙ c.before.before.unless.ensures) in
+    let s = c.args.s.now in
+    let l = on_unless _ (sym c.in-On.is ∙ c.unless.ensures) in
     (l, fields_from_lem 0 widths s tt (omega (arith, right_length s l)))
 
-returns : tie.Need-returns
+returns : tie.Need-returns-in_default
 unfolding wrong_length
 returns c =
-    ap answer_told (c.refused.ensures ∙ sym (layout_is _ true _ (off_unless _ (sym c.before.enum-told2.given.1 ∙ c.before.before.before.unless.ensures)) refl))
+    ap answer_told (c.refused.ensures ∙ sym (layout_is _ true _ (off_unless _ (sym c.in_default.is ∙ c.unless.ensures)) refl))
 
-returns-2 : tie.Need-returns-2
+returns-2 : tie.Need-returns-in_default-unless
 returns-2 c =
-    let l = past_length c.before.before.before.before.before in
-    let m = sym (c.before.before.before.before.wrong-mark.ensures ∙ ap wrong_mark l.1) ∙ off_unless _ (sym c.before.enum-told4.given.1 ∙ c.before.before.before.unless2.ensures) in
-    ap answer_told (c.refused2.ensures ∙ sym (layout_is _ false true l.0 m))
+    let l = past_length c.before.before.before.before in
+    let m = sym (c.wrong_mark.ensures ∙ ap wrong_mark l.1) ∙ off_unless _ (sym c.in_default-unless.is ∙ c.unless-2.ensures) in
+    ap answer_told (c.refused-in_default-unless.ensures ∙ sym (layout_is _ false true l.0 m))
 
-returns-3 : tie.Need-returns-3
+returns-3 : tie.Need-returns
 unfolding raw_in
 returns-3 c =
-    let l = past_length c.before.before.before.before.before in
-    let m = sym (c.before.before.before.before.wrong-mark.ensures ∙ ap wrong_mark l.1) ∙ on_unless _ (sym c.before.enum-told3.given.1 ∙ c.before.before.before.unless2.ensures) in
-    ap answer_told (ap (answer Accepted) (c.of-bytes.ensures ∙ ap of_fields l.1) ∙ sym (layout_is _ false false l.0 m))
+    let l = past_length c.before.before.before.before in
+    let m = sym (c.wrong_mark.ensures ∙ ap wrong_mark l.1) ∙ on_unless _ (sym c.in-On-unless.is ∙ c.unless-2.ensures) in
+    ap answer_told (ap (answer Accepted) (c.of_bytes-raw.ensures ∙ ap of_fields l.1) ∙ sym (layout_is _ false false l.0 m))
 
 pub lay_out_spec : {M : Type 1} → statement M
 lay_out_spec =

@@ -7,15 +7,15 @@ returns : tie.Need-returns
 returns c =
     let front = c.before.before.before.before.before in
     rw (
-      front.before.before.float_of.ensures,
-      front.before.before.before.field.ensures.0,
-      front.float-of2.ensures,
-      front.before.field2.ensures.0,
-      c.before.before.rear-of.ensures,
-      c.before.before.before.before.field3.ensures.0,
-      c.before.before.before.field4.ensures.0,
-      c.before.field5.ensures.0,
-      c.field6.ensures.0,
+      front.float_of-speed.ensures,
+      front.field.ensures.0,
+      front.float_of-front.ensures,
+      front.field-2.ensures.0,
+      c.rear_of-rear.ensures,
+      c.field-3.ensures.0,
+      c.field-4.ensures.0,
+      c.field-5.ensures.0,
+      c.field-6.ensures.0,
     )
 
 pub of_bytes_spec : {M : Type 1} → statement M

@@ -12,12 +12,12 @@ returns : tie.Need-returns
 returns c =
     let put = c.before.before in
     let made = put.before.before.before.before.before.before.before in
-    let rear = made.rear-fields.ensures in
-    let front = made.before.bits-of2.ensures in
-    let speed = made.before.before.bits_of.ensures in
-    let a = made.before.before.before.before.args in (
-      put.put-fields.ensures ∙ λ i. put_from 0 widths (lead_of a.raw.time (rear.0 i) a.raw.head ++ speed i ∷ front i ∷ rear.1 i ∷ []) a.out.now,
-      omega (arith, made.rear-fields, made.before.bits-of2, made.before.before.bits_of),
+    let rear = made.rear_fields-rear.ensures in
+    let front = made.bits_of-front.ensures in
+    let speed = made.bits_of-speed.ensures in
+    let a = made.args in (
+      put.put_fields.ensures ∙ λ i. put_from 0 widths (lead_of a.raw.time (rear.0 i) a.raw.head ++ speed i ∷ front i ∷ rear.1 i ∷ []) a.out.now,
+      omega (arith, made.rear_fields-rear, made.bits_of-front, made.bits_of-speed),
     )
 
 pub put_spec : {M : Type 1} → statement M

@@ -11,26 +11,26 @@ use Rattle.sample.proofs.read.Statement.{statement}
 use Rattle.sample.proofs.read.Tie as tie
 
 -- past the layout
-past_layout : (c : tie.After-enum-told) → lay_out c.before.before.before.before.args.s.now ≡ (Accepted, c.before.before.lay-out.result.raw)
-past_layout c = answer_is _ c.before.before.lay-out.result _ c.before.before.lay-out.ensures c.enum_told.given.1
+past_layout : (c : tie.In-Accepted) → lay_out c.args.s.now ≡ (Accepted, c.lay_out-laid.result.raw)
+past_layout c = answer_is _ c.lay_out-laid.result _ c.lay_out-laid.ensures c.in-Accepted.is
 
-returns : tie.Need-returns
+returns : tie.Need-returns-in_default
 returns c =
-    let laid = c.before.before.lay-out in
-    laid.ensures ∙ ap answer_told (sym (read_refused _ _ _ (answer_is _ laid.result _ laid.ensures c.enum-told2.given.1)))
+    let laid = c.lay_out-laid in
+    laid.ensures ∙ ap answer_told (sym (read_refused _ _ _ (answer_is _ laid.result _ laid.ensures c.in_default.is)))
 
-returns-2 : tie.Need-returns-2
+returns-2 : tie.Need-returns-in_default-verdict
 returns-2 c =
-    let j = judged_is _ c.before.before.before.judge.result _ c.before.before.before.judge.ensures c.before.enum-told4.given.1 in
+    let j = judged_is _ c.judge-judged.result _ c.judge-judged.ensures c.in_default-verdict.is in
     ap answer_told (c.refused.ensures ∙ sym (read_is _ _ true (past_layout c.before.before.before.before) (judged_refused _ _ _ j).0))
 
-returns-3 : tie.Need-returns-3
+returns-3 : tie.Need-returns
 returns-3 c =
-    let laid = c.before.before.before in
-    let j = judged_is _ c.before.before.judge.result _ c.before.before.judge.ensures c.enum-told3.given.1 in
+    let laid = c.before.before in
+    let j = judged_is _ c.judge-judged.result _ c.judge-judged.ensures c.in-Accepted-verdict.is in
     ap answer_told
-    (ap (λ (v : Verdict). (v, laid.before.before.lay-out.result.raw)) laid.enum_told.given.1
-    ∙ sym (read_is _ _ false (past_layout laid) (judged_accepted _ _ j).0))
+    (ap (λ (v : Verdict). (v, laid.lay_out-laid.result.raw)) laid.in-Accepted.is
+    ∙ sym (read_is _ _ false (past_layout laid.before) (judged_accepted _ _ j).0))
 
 pub read_spec : {M : Type 1} → statement M
 read_spec =

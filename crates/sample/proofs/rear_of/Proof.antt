@@ -5,8 +5,8 @@ use borrow.Author.Rules.{rules}
 use Rattle.sample.proofs.rear_of.Statement.{statement}
 use Rattle.sample.proofs.rear_of.Tie as tie
 
-returns-2 : tie.Need-returns-2
-returns-2 c = simp c.before.if1.false (ap Present c.float_of.ensures)
+returns-2 : tie.Need-returns-else-lost
+returns-2 c = simp c.if-lost.false (ap Present c.float_of.ensures)
 
 pub rear_of_spec : {M : Type 1} → statement M
 rear_of_spec = tie.close (tie.spec (λ c κs. search rules) (λ c. search rules) returns-2)

@@ -6,7 +6,7 @@ use Rattle.sample.proofs.wrong_mark.Tie as tie
 
 returns : tie.Need-returns
 unfolding wrong_mark
-returns c = rw (c.before.before.before.field.ensures.0, c.before.before.field2.ensures.0, c.before.field3.ensures.0, c.field4.ensures.0)
+returns c = rw (c.field-mark.ensures.0, c.field-lost.ensures.0, c.field-spare.ensures.0, c.field-rear.ensures.0)
 
 pub wrong_mark_spec : {M : Type 1} → statement M
 wrong_mark_spec = tie.close (tie.spec (λ c κs. search rules) (λ c κs. search rules) (λ c κs. search rules) (λ c κs. search rules) returns)

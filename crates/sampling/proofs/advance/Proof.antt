@@ -6,21 +6,21 @@ use borrow.Author.Rules.{rules}
 use Rattle.sampling.proofs.advance.Statement.{statement}
 use Rattle.sampling.proofs.advance.Tie as tie
 
-abbrev start : tie.After-updated → tie.Start
+abbrev start : tie.After-updated-updated → tie.Start
 start c = c.before.before.before.before.before
 
 -- past what the sample teaches
-abbrev updated_at : tie.After-in-force → tie.After-updated
+abbrev updated_at : tie.After-in_force-consist → tie.After-updated-updated
 updated_at c = c.before.before.before.before.before
 
-taught-requires : tie.Need-taught-requires
+taught-requires : tie.Need-taught-lesson-requires
 taught-requires c κs = (start c.before.before).requires.1
 
-of-sample-requires : tie.Need-of-sample-requires
+of-sample-requires : tie.Need-of_sample-found-requires
 of-sample-requires c κs =
     let updated = updated_at c in
     let a = (start updated).args in
-    rw updated.updated.ensures (predictable a.x a.m a.p.now (start updated).pre.0)
+    rw updated.updated-updated.ensures (predictable a.x a.m a.p.now (start updated).requires.0)
 
 returns : tie.Need-returns
 returns c =
@@ -34,10 +34,10 @@ returns c =
     let shown = taught.before in
     let updated = updated_at served in
     let a = (start updated).args in
-    after_is a.x a.m a.p.now a.t.now updated.updated.result found.of-sample.result stands.standing.result
-    stays.standing2.result number.state-number.result first.decided.result c.decided2.result taught.taught.result served.in-force.result
-    updated.updated.ensures found.of-sample.ensures stands.standing.ensures stays.standing2.ensures number.state-number.ensures
-    first.decided.ensures c.decided2.ensures (taught.taught.ensures ∙ ap (taught_of a.x.learner) shown.shown.ensures) served.in-force.ensures
+    after_is a.x a.m a.p.now a.t.now updated.updated-updated.result found.of_sample-found.result stands.standing-cause.result
+    stays.standing-called.result number.state_number-number.result first.decided-decision.result c.decided-emergency.result taught.taught-lesson.result served.in_force-consist.result
+    updated.updated-updated.ensures found.of_sample-found.ensures stands.standing-cause.ensures stays.standing-called.ensures number.state_number-number.ensures
+    first.decided-decision.ensures c.decided-emergency.ensures (taught.taught-lesson.ensures ∙ ap (taught_of a.x.learner) shown.shown.ensures) served.in_force-consist.ensures
 
 pub advance_spec : {M : Type 1} → statement M
 advance_spec =

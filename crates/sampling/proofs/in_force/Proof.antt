@@ -6,11 +6,11 @@ use Rattle.sampling.specs.Learning.{in_force}
 use Rattle.sampling.proofs.in_force.Statement.{statement}
 use Rattle.sampling.proofs.in_force.Tie as tie
 
-returns : tie.Need-returns
-returns c = ap (λ (r : Learnt). in_force c.before.before.before.args.c r) (sym c.enum_told.given.1)
+returns : tie.Need-returns-in-Nothing
+returns c = ap (λ (r : Learnt). in_force c.args.c r) (sym c.in-Nothing.is)
 
-returns-2 : tie.Need-returns-2
-returns-2 c = ap (λ (r : Learnt). in_force c.before.before.before.before.args.c r) (sym c.before.learnt.given.1)
+returns-2 : tie.Need-returns-in-Time
+returns-2 c = ap (λ (r : Learnt). in_force c.args.c r) (sym c.in-Time.is)
 
 pub in_force_spec : {M : Type 1} → statement M
 in_force_spec = tie.close (tie.spec (λ c. search rules) (λ c. search rules) returns returns-2)

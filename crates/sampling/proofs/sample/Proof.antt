@@ -25,7 +25,7 @@ use Rattle.sampling.proofs.sample.Statement.{statement}
 use Rattle.sampling.proofs.sample.Tie as tie
 
 -- what the call is lent
-module _ (c : tie.After-is-open) where
+module _ (c : tie.After-is_open) where
   abbrev start : tie.Start
   start = c.before.before.before.before.before
 
@@ -45,49 +45,49 @@ module _ (c : tie.After-is-open) where
   out = start.args.out.now
 
 -- past 1
-abbrev entered : tie.After-admit → tie.After-is-open
+abbrev entered : tie.After-admit-entry → tie.After-is_open
 entered c = c.before.before.before.before
 
-verdict_before : (c : tie.After-admit) → let k = entered c in lowest (rules_before (x k) (s k) (p k) (t k)) ≡ c.admit.result.verdict
+verdict_before : (c : tie.After-admit-entry) → let k = entered c in lowest (rules_before (x k) (s k) (p k) (t k)) ≡ c.admit-entry.result.verdict
 verdict_before c =
     let k = entered c in
-    past_open (x k) (s k) (p k) (t k) (sym k.is_open.ensures ∙ not-false _ c.before.before.before.if1.false) ∙ verdict_is _ _ _ _ _ _ _ c.admit.ensures
+    past_open (x k) (s k) (p k) (t k) (sym k.is_open.ensures ∙ c.if-not-is_open.false) ∙ verdict_is _ _ _ _ _ _ _ c.admit-entry.ensures
 
 -- past what is judged before the walk
-module _ (c : tie.After-enum-told) where
-  abbrev admission : tie.After-admit
-  admission = c.before.before
+module _ (c : tie.In-Accepted) where
+  abbrev admission : tie.After-admit-entry
+  admission = c.before
 
-  abbrev begun : tie.After-is-open
+  abbrev begun : tie.After-is_open
   begun = entered admission
 
   passes : lowest (rules_before (x begun) (s begun) (p begun) (t begun)) ≡ Accepted
-  passes = verdict_before admission ∙ c.enum_told.given.1
+  passes = verdict_before admission ∙ c.in-Accepted.is
 
-  admitted : sample_in (s begun) ≡ admission.admit.result.sample
-  admitted = sample_is _ _ _ _ _ _ _ admission.admit.ensures c.enum_told.given.1
+  admitted : sample_in (s begun) ≡ admission.admit-entry.result.sample
+  admitted = sample_is _ _ _ _ _ _ _ admission.admit-entry.ensures c.in-Accepted.is
 
 -- what the call makes of the session, of the sample that the bytes are
-after_is : (c : tie.After-advance) → let k = begun c.before.before in c.advance.result ≡ after_of (x k) (sample_in (s k)) (p k) (t k)
+after_is : (c : tie.After-advance-next) → let k = begun c.before.before in c.advance-next.result ≡ after_of (x k) (sample_in (s k)) (p k) (t k)
 after_is c =
     let k = begun c.before.before in
-    subst (λ (m : Sample). c.advance.result ≡ after_of (x k) m (p k) (t k)) (sym (admitted c.before.before)) c.advance.ensures
+    subst (λ (m : Sample). c.advance-next.result ≡ after_of (x k) m (p k) (t k)) (sym (admitted c.before.before)) c.advance-next.ensures
 
-returns : tie.Need-returns
+returns : tie.Need-returns-then-not-is_open
 returns c =
     let k = c.before in
-    ap call_told (sym (call_before (x k) (s k) (p k) (t k) (out k) _ (not_open (x k) _ _ _ (sym k.is_open.ensures ∙ not-true _ c.if1.true))))
+    ap call_told (sym (call_before (x k) (s k) (p k) (t k) (out k) _ (not_open (x k) _ _ _ (sym k.is_open.ensures ∙ c.if-not-is_open.true))))
 
-returns-2 : tie.Need-returns-2
+returns-2 : tie.Need-returns-in_default
 returns-2 c =
-    let entry = c.before.before in
+    let entry = c.before in
     let k = entered entry in
-    let r = c.enum-told2.given.1 in
+    let r = c.in_default.is in
     ap call_told
     (ap (λ (v : Verdict). (answer (x k) v, out k)) r
     ∙ sym (call_before (x k) (s k) (p k) (t k) (out k) _ (verdict_before entry ∙ r)))
 
-advance-requires : tie.Need-advance-requires
+advance-requires : tie.Need-advance-next-requires
 advance-requires c κs =
     let k = begun c.before in
     let before = passes c.before in (
@@ -96,38 +96,38 @@ advance-requires c κs =
     )
 
 -- past the walk: what the writer says of the decisions is handed on
-module _ (c : tie.After-write-both) where
-  abbrev walked : tie.After-advance
+module _ (c : tie.After-write_both-written) where
+  abbrev walked : tie.After-advance-next
   walked = c.before.before.before.before.before
 
-  abbrev entry : tie.After-is-open
+  abbrev entry : tie.After-is_open
   entry = begun walked.before.before
 
   abbrev moved : Verdict → Answer
   moved v = answer (kept v (session_after (x entry) (sample_in (s entry)) (p entry) (t entry)) (x entry)) v
 
-  call_is : sample_call (x entry) (s entry) (p entry) (t entry) (out entry) ≡ (moved c.write-both.result, c.write-both.new.1.1.0)
+  call_is : sample_call (x entry) (s entry) (p entry) (t entry) (out entry) ≡ (moved c.write_both-written.result, c.write_both-written.new.out)
   call_is =
       let k = entry in
       let before = passes walked.before.before in
       let a = after_is walked in
-      let w = told_one (c.write-both.result, c.write-both.new.1.1.0) (write_both walked.advance.result.decision walked.advance.result.emergency (out k)) c.write-both.ensures in
+      let w = told_one (c.write_both-written.result, c.write_both-written.new.out) (write_both walked.advance-next.result.decision walked.advance-next.result.emergency (out k)) c.write_both-written.ensures in
       call_written (x k) (s k) (p k) (t k) (out k) before (in_range (x k) (s k) (p k) (t k) before) (emergency_in_range (x k) (s k) (p k) (t k) before) _ _
       (w ∙ ap (λ (y : After). write_both y.decision y.emergency (out k)) a)
 
-returns-3 : tie.Need-returns-3
+returns-3 : tie.Need-returns-in_default-written
 returns-3 c =
-    let k = c.before.before.before.before in
+    let k = c.before.before.before in
     ap call_told
-    (ap (λ (y : Session). (answer y k.write-both.result, k.write-both.new.1.1.0)) (ap (λ (v : Verdict). (moved k v).session) (sym c.enum-told4.given.1))
+    (ap (λ (y : Session). (answer y k.write_both-written.result, k.write_both-written.new.out)) (ap (λ (v : Verdict). (moved k v).session) (sym c.in_default-written.is))
     ∙ sym (call_is k))
 
-returns-4 : tie.Need-returns-4
+returns-4 : tie.Need-returns
 returns-4 c =
-    let k = c.before.before.before.before in
+    let k = c.before.before.before in
     ap call_told
-    (ap (λ (y : Answer). (y, k.write-both.new.1.1.0))
-    (ap (λ (y : After). answer y.session Accepted) (after_is (walked k)) ∙ ap (moved k) (sym c.enum-told3.given.1))
+    (ap (λ (y : Answer). (y, k.write_both-written.new.out))
+    (ap (λ (y : After). answer y.session Accepted) (after_is (walked k)) ∙ ap (moved k) (sym c.in-Accepted-written.is))
     ∙ sym (call_is k))
 
 pub sample_spec : {M : Type 1} → statement M

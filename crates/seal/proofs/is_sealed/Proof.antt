@@ -9,14 +9,14 @@ use borrow.Author.Rules.{rules}
 use Rattle.seal.proofs.is_sealed.Statement.{statement}
 use Rattle.seal.proofs.is_sealed.Tie as tie
 
-returns : tie.Need-returns
+returns : tie.Need-returns-then-s-lt-SIZE
 unfolding is_sealed
-returns c = rw (lt-leb 4 (length c.before.before.args.s.now) c.if1.true) refl
+returns c = rw (lt-leb 4 (length c.args.s.now) c.if-s-lt-SIZE.true) refl
 
-returns-2 : tie.Need-returns-2
+returns-2 : tie.Need-returns
 returns-2 c =
     let k = c.before.before.before.before.before in
-    read k.before.args.s.now (omega arith) _ _ (λ i. omega (arith, k.shared-slice-known.given i)) c.word.ensures c.before.before.check-word.ensures
+    read k.args.s.now (omega arith) _ _ (λ i. omega (arith, c.shared_slice_known-1.given i)) c.word.ensures c.check_word-c.ensures
 
 pub is_sealed_spec : {M : Type 1} → statement M
 is_sealed_spec =

@@ -8,14 +8,14 @@ use borrow.Author.Rules.{rules}
 use Rattle.seal.proofs.put_check_word.Statement.{statement}
 use Rattle.seal.proofs.put_check_word.Tie as tie
 
-returns : tie.Need-returns
+returns : tie.Need-returns-then-out-lt-SIZE
 unfolding resealed
-returns c = rw (lt-leb 4 (length c.before.before.args.out.now) c.if1.true)
+returns c = rw (lt-leb 4 (length c.args.out.now) c.if-out-lt-SIZE.true)
 
-returns-2 : tie.Need-returns-2
+returns-2 : tie.Need-returns
 returns-2 c =
     let k = c.before.before.before.before in
-    put k.before.before.before.before.args.out.now (omega arith) _ _ c.before.before.put_word.ensures k.check-word.ensures
+    put k.args.out.now (omega arith) _ _ c.put_word.ensures k.check_word-c.ensures
 
 pub put_check_word_spec : {M : Type 1} → statement M
 put_check_word_spec =

@@ -13,15 +13,15 @@ returns c =
     let causes = c.before.before.before.before in
     let fresh = causes.before.before.before.before in
     let tested = fresh.before.before in
-    let x = tested.before.before.before.before.before.before.args.x in
+    let x = tested.args.x in
     λ i. x.opened
-    && tested.before.before.is-sound.ensures i
-    && tested.before.is-sound2.ensures i
-    && tested.is-sound3.ensures i
+    && tested.is_sound-consist_sound.ensures i
+    && tested.is_sound-brake_sound.ensures i
+    && tested.is_sound-learner_sound.ensures i
     && leb x.cause most
     && leb x.emergency most
     && (eqb x.emergency 0 || not (eqb x.cause 0))
-    && (x.brake.sampled || (fresh.before.is-at-opening.ensures i && fresh.is-at-opening2.ensures i && eqb x.cause 0 && eqb x.emergency 0))
+    && (x.brake.sampled || (fresh.is_at_opening.ensures i && fresh.is_at_opening-2.ensures i && eqb x.cause 0 && eqb x.emergency 0))
 
 pub is_open_spec : {M : Type 1} → statement M
 is_open_spec =

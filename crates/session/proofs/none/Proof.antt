@@ -9,12 +9,12 @@ use Rattle.session.proofs.none.Tie as tie
 returns : tie.Need-returns
 returns c =
     let opening = c.before in
-    let none = opening.before.none.ensures in
+    let none = opening.none-blocks.ensures in
     λ i. session_told (record {
       opened = false;
       consist = consist.with_blocks consist.none (none i);
-      brake = opening.at-opening.ensures i;
-      learner = c.bare.ensures i;
+      brake = opening.at_opening-brake.ensures i;
+      learner = c.bare-learner.ensures i;
       cause = 0;
       emergency = 0;
     })

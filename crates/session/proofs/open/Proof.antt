@@ -13,34 +13,34 @@ use borrow.Author.Rules.{rules}
 use Rattle.session.proofs.open.Statement.{statement}
 use Rattle.session.proofs.open.Tie as tie
 
-abbrev start : tie.After-read → tie.Start
+abbrev start : tie.After-read-read → tie.Start
 start c = c.before.before
 
 -- what the reader says, and that the session is opened by it
-module _ (c : tie.After-read) where
+module _ (c : tie.After-read-read) where
   abbrev read : Verdict × Consist
-  read = (c.read.result.verdict, c.read.result.consist)
+  read = (c.read-read.result.verdict, c.read-read.result.consist)
 
   opened_by_lem : opened_by (start c).args.x read (start c).args.choice ≡ open_of (start c).args.x (start c).args.s.now (start c).args.choice
   unfolding open_of
-  opened_by_lem = ap (λ (r : Verdict × Consist). opened_by (start c).args.x r (start c).args.choice) (told_one read (read_consist (start c).args.s.now) c.read.ensures)
+  opened_by_lem = ap (λ (r : Verdict × Consist). opened_by (start c).args.x r (start c).args.choice) (told_one read (read_consist (start c).args.s.now) c.read-read.ensures)
 
-returns : tie.Need-returns
+returns : tie.Need-returns-in_default
 returns c =
-    let k = c.before.before in
+    let k = c.before in
     ap answer_told
-    (ap (λ (v : Verdict). answer (kept v (opened_with (read k).1 (start k).args.choice) (start k).args.x) (read k).0) (sym c.enum-told2.given.1)
+    (ap (λ (v : Verdict). answer (kept v (opened_with (read k).1 (start k).args.choice) (start k).args.x) (read k).0) (sym c.in_default.is)
     ∙ opened_by_lem k)
 
-returns-2 : tie.Need-returns-2
+returns-2 : tie.Need-returns
 returns-2 c =
     let opening = c.before in
-    let k = opening.before.before.before.before in
-    let opened : answer (record { opened = true; consist = (read k).1; brake = opening.at-opening.result; learner = c.bare.result; cause = 0; emergency = 0 }) Accepted ≡ answer (opened_with (read k).1 (start k).args.choice) Accepted =
-    λ i. answer (record { opened = true; consist = (read k).1; brake = opening.at-opening.ensures i; learner = c.bare.ensures i; cause = 0; emergency = 0 }) Accepted in
+    let k = opening.before.before.before in
+    let opened : answer (record { opened = true; consist = (read k).1; brake = opening.at_opening-brake.result; learner = c.bare-learner.result; cause = 0; emergency = 0 }) Accepted ≡ answer (opened_with (read k).1 (start k).args.choice) Accepted =
+    λ i. answer (record { opened = true; consist = (read k).1; brake = opening.at_opening-brake.ensures i; learner = c.bare-learner.ensures i; cause = 0; emergency = 0 }) Accepted in
     ap answer_told
     (opened
-    ∙ ap (λ (v : Verdict). opened_by (start k).args.x (v, (read k).1) (start k).args.choice) (sym opening.before.before.enum_told.given.1)
+    ∙ ap (λ (v : Verdict). opened_by (start k).args.x (v, (read k).1) (start k).args.choice) (sym opening.in-Accepted.is)
     ∙ opened_by_lem k)
 
 pub open_spec : {M : Type 1} → statement M

@@ -58,18 +58,18 @@ module _ {t : Track} {head : ℕ} {b : Blocks} {location : ℕ} {front : Sums} {
         shared = g ∙ (rw (turn.shared, turn.totals, f) (shares_on t head b gentle k));
       })
 
-abbrev invariant-loop : tie.invariant-loop
+abbrev invariant-loop : tie.invariant-loop-k
 invariant-loop count starts grades curvatures grade_totals curvature_totals head weight blocks lengths weights near₀ first front₀ location₀ shares₀ last k₀ near front location shares k =
     Turn (track_of count starts grades curvatures) head (blocks_of blocks lengths weights) location front shares k
 
-abbrev decreases-loop : tie.decreases-loop
+abbrev decreases-loop : tie.decreases-loop-k
 decreases-loop count starts grades curvatures grade_totals curvature_totals head weight blocks lengths weights near₀ first front₀ location₀ shares₀ last k₀ near front location shares k =
     blocks - k
 
 -- a turn of the loop
-module _ (c : tie.At-loop invariant-loop decreases-loop) where
+module _ (c : tie.At-loop-k invariant-loop decreases-loop) where
   abbrev start : tie.Start invariant-loop decreases-loop
-  start = c.before.before.before.before
+  start = c.before.before.before.before.before
 
   abbrev track : Track
   track = let a = start.args in track_of a.count a.starts.now a.grades.now a.curvatures.now
@@ -78,51 +78,51 @@ module _ (c : tie.At-loop invariant-loop decreases-loop) where
   train = let a = start.args in blocks_of a.blocks a.lengths.now a.weights.now
 
   gentle : Gentle track
-  gentle = start.pre.0
+  gentle = start.requires.0
 
   loaded : Loaded train start.args.weight
-  loaded = start.pre.1.1
+  loaded = start.requires.1.1
 
 -- one with a block to take
-room : (c : tie.In-loop invariant-loop decreases-loop) → (c.before.loop.k < (start c.before).args.blocks) × ((start c.before).args.blocks ≤ most)
-room c = (c.loop-test.true, (loaded c.before).few)
+room : (c : tie.In-loop-k invariant-loop decreases-loop) → (c.loop-k.k < (start c.before).args.blocks) × ((start c.before).args.blocks ≤ most)
+room c = (c.loop-k-test.true, (loaded c.before).few)
 
-abbrev in_turn : tie.After-reached-at2 invariant-loop decreases-loop → tie.In-loop invariant-loop decreases-loop
-in_turn c = c.before.before.before.before
+abbrev in_turn : tie.After-reached_at-at_rear invariant-loop decreases-loop → tie.In-loop-k invariant-loop decreases-loop
+in_turn c = c.before.before.before.before.before.before
 
-rear_sums : (c : tie.After-reached-at2 invariant-loop decreases-loop) → let l = (in_turn c).before in
-    c.reached-at2.result.sums ≡ front_sums (track l) (start l).args.head (train l) (suc l.loop.k)
+rear_sums : (c : tie.After-reached_at-at_rear invariant-loop decreases-loop) → let l = (in_turn c).before in
+    c.reached_at-at_rear.result.sums ≡ front_sums (track l) (start l).args.head (train l) (suc l.loop-k.k)
 rear_sums c =
     let l = (in_turn c).before in
-    rear_totals l.loop.inv c.before.before.rear-of.result c.reached-at2.result c.before.before.rear-of.ensures c.reached-at2.ensures
+    rear_totals l.loop-k.invariant c.rear_of-location.result c.reached_at-at_rear.result c.rear_of-location.ensures c.reached_at-at_rear.ensures
 
-loop_holds : tie.Need-loop-init invariant-loop decreases-loop
+loop_holds : tie.Need-loop-k-init invariant-loop decreases-loop
 loop_holds c =
-    let a = c.before.before.before.args in
-    begun _ a.head (blocks_of a.blocks a.lengths.now a.weights.now) c.before.reached-at.result c.before.reached-at.ensures
+    let a = c.args in
+    begun _ a.head (blocks_of a.blocks a.lengths.now a.weights.now) c.reached_at-at_head.result c.reached_at-at_head.ensures
 
-plus-requires : tie.Need-plus-requires invariant-loop decreases-loop
+plus-requires : tie.Need-plus-shares-requires invariant-loop decreases-loop
 plus-requires c κs =
     let r = c.before.before.before in
-    let l = (in_turn r).before in
+    let l = (in_turn r.before).before in
     let s = start l in
-    asked l.loop.inv (gentle l) s.args.weight (loaded l) (omega arith) (in_turn r).loop-test.true (omega arith) r.reached-at2.result.sums (rear_sums r)
+    asked l.loop-k.invariant (gentle l) s.args.weight (loaded l) (omega arith) (in_turn r.before).loop-k-test.true (omega arith) r.reached_at-at_rear.result.sums (rear_sums r.before)
 
-loop_again : tie.Need-loop-preserved invariant-loop decreases-loop
+loop_again : tie.Need-loop-k-preserved invariant-loop decreases-loop
 loop_again c =
     let r = c.before.before.before.before in
-    let l = (in_turn r).before in
-    turned l.loop.inv (gentle l) (in_turn r).loop-test.true _ _ _
-    (rear_is l.loop.inv r.before.before.rear-of.result r.before.before.rear-of.ensures)
-    (rear_sums r)
-    c.plus.ensures
+    let l = (in_turn r.before).before in
+    turned l.loop-k.invariant (gentle l) (in_turn r.before).loop-k-test.true _ _ _
+    (rear_is l.loop-k.invariant r.rear_of-location.result r.rear_of-location.ensures)
+    (rear_sums r.before)
+    c.plus-shares.ensures
 
 over-requires : tie.Need-over-requires invariant-loop decreases-loop
 over-requires c κs =
     let l = c.before in
     let s = start l in
-    let i = l.loop.invariant in (
-      rw i.shared (small_grade (track l) s.args.head (train l) (gentle l) s.args.weight (loaded l) (omega arith) l.loop.k i.turns),
+    let i = l.loop-k.invariant in (
+      rw i.shared (small_grade (track l) s.args.head (train l) (gentle l) s.args.weight (loaded l) (omega arith) l.loop-k.k i.turns),
       some_weight (track l) s.args.head (train l) (gentle l) s.args.weight (loaded l) (omega arith),
     )
 
@@ -130,12 +130,12 @@ returns : tie.Need-returns invariant-loop decreases-loop
 returns c =
     let l = c.before.before in
     let s = start l in
-    let i = l.loop.invariant in
-    let e : l.loop.k ≡ s.args.blocks = omega (arith, i.turns, c.before.loop-test.false) in
+    let i = l.loop-k.invariant in
+    let e : l.loop-k.k ≡ s.args.blocks = omega (arith, i.turns, c.loop-k-test.false) in
     c.over.ensures
     ∙ ap (λ (x : Shares). over_of x s.args.weight) (i.shared ∙ ap (shares_to (track l) s.args.head (train l)) e)
 
-add-next : tie.Need-overflow-add-next invariant-loop decreases-loop
+add-next : tie.Need-overflow_add-next invariant-loop decreases-loop
 add-next c = omega (arith, room c)
 
 pub by_weight_spec : {M : Type 1} → statement M
@@ -152,19 +152,19 @@ by_weight_spec =
     loop_holds
     add-next
     (λ c. omega (arith, room c))
-    (λ c. omega (arith, room c))
+    (λ c. omega (arith, room c.before))
     (λ c κs. search rules)
-    (λ c. omega (arith, room c.before.before))
-    (λ c. omega (arith, room c.before.before))
-    (λ c κs. let p = (start c.before.before.before.before).pre in (p.0, p.1.0))
+    (λ c. omega (arith, room c.before.before.before))
+    (λ c. omega (arith, room c.before.before.before.before))
+    (λ c κs. let p = (start c.before.before.before.before.before.before).requires in (p.0, p.1.0))
     (λ c. omega (arith, room (in_turn c)))
     (λ c. omega (arith, room (in_turn c)))
     (λ c. omega (arith, room (in_turn c.before)))
     (λ c. omega (arith, room (in_turn c.before)))
     (λ c. omega (arith, room (in_turn c.before.before)))
-    (λ c. omega (arith, room (in_turn c.before.before)))
+    (λ c. omega (arith, room (in_turn c.before.before.before)))
     plus-requires
-    (λ c. omega (arith, room (in_turn c.before.before.before.before)))
+    (λ c. omega (arith, room (in_turn c.before.before.before.before.before)))
     loop_again
     over-requires
     returns)

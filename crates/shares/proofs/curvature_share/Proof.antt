@@ -7,7 +7,7 @@ use borrow.Author.Rules.{rules}
 use Rattle.shares.proofs.curvature_share.Statement.{statement}
 use Rattle.shares.proofs.curvature_share.Tie as tie
 
-mul-result : tie.Need-overflow-mul-result
+mul-result : tie.Need-overflow_mul-result
 mul-result c =
     let w : c.args.weight ≤ 65535 = omega arith in
     let s : c.args.sum ≤ 131070000 = omega arith in

@@ -48,8 +48,8 @@ module _ (c : tie.Start) where
 returns : tie.Need-returns
 returns c =
     let s = c.before in
-    to_z-of_z (sfits_of c.floor-div.type-inv)
-    ∙ c.floor-div.ensures
+    to_z-of_z {w = w64} (sfits_of c.floor_div.type_inv)
+    ∙ c.floor_div.ensures
     ∙ both floor_div (op_holds ◌*ℤ◌ (weight_holds s) (finer_holds s) (weighed_fits s)) (nat_holds (omega arith))
 
 pub grade_share_spec : {M : Type 1} → statement M

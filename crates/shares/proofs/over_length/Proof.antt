@@ -6,7 +6,7 @@ use Rattle.shares.proofs.over_length.Statement.{statement}
 use Rattle.shares.proofs.over_length.Tie as tie
 
 returns : tie.Need-returns
-returns c = ap (λ (f : Found). f.under) c.before.under-train.ensures
+returns c = ap (λ (f : Found). f.under) c.under_train-found.ensures
 
 pub over_length_spec : {M : Type 1} → statement M
 over_length_spec =

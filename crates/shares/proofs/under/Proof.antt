@@ -21,12 +21,12 @@ module _ (t : Track) (head length weight : ℕ) (b : Blocks) (u : Under) where
   unfolding ground_under
   with_blocks e f = rw (ne_eqb b.count 0 e) f
 
-by-weight-requires : tie.Need-by-weight-requires
+by-weight-requires : tie.Need-by_weight-requires
 by-weight-requires c κs =
     let s = c.before.before in
     let p = s.requires in
     let sound = p.1.1 in
-    let some : 0 < s.args.blocks = omega (arith, c.before.if1.false) in (
+    let some : 0 < s.args.blocks = omega (arith, c.if-blocks-eq0.false) in (
       p.0,
       (
         p.1.0,
@@ -34,11 +34,11 @@ by-weight-requires c κs =
       ),
     )
 
-returns : tie.Need-returns
-returns c = without _ _ _ _ _ _ c.before.before.if1.true c.over-length.ensures
+returns : tie.Need-returns-then-blocks-eq0
+returns c = without _ _ _ _ _ _ c.if-blocks-eq0.true c.over_length.ensures
 
-returns-2 : tie.Need-returns-2
-returns-2 c = with_blocks _ _ _ _ _ _ c.before.before.if1.false c.by-weight.ensures
+returns-2 : tie.Need-returns
+returns-2 c = with_blocks _ _ _ _ _ _ c.if-blocks-eq0.false c.by_weight.ensures
 
 pub under_spec : {M : Type 1} → statement M
 under_spec = tie.close (tie.spec (λ c κs. search rules) returns by-weight-requires returns-2)

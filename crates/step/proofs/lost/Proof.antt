@@ -15,12 +15,12 @@ use borrow.Author.Rules.{rules, sfits_of}
 use Rattle.step.proofs.lost.Statement.{statement}
 use Rattle.step.proofs.lost.Tie as tie
 
-module _ (c : tie.After-opposing-force) where
+module _ (c : tie.After-opposing_force) where
   abbrev force : ℤ
-  force = let a = c.before.before.args in opposing (carrying a.load) a.f a.s a.q a.u.grade a.u.curvature
+  force = let a = c.args in opposing (carrying a.load) a.f a.s a.q a.u.grade a.u.curvature
 
-  force_holds : Holds w64 (of_z w64 c.opposing-force.result) force
-  force_holds = record { reads = to_z-of_z (sfits_of c.opposing-force.type-inv) ∙ c.opposing-force.ensures }
+  force_holds : Holds w64 (of_z w64 c.opposing_force.result) force
+  force_holds = record { reads = to_z-of_z {w = w64} (sfits_of c.opposing_force.type_inv) ∙ c.opposing_force.ensures }
 
   factor_holds : Holds w64 1449 (pos 1449)
   factor_holds = nat_holds (omega arith)
@@ -31,33 +31,33 @@ module _ (c : tie.After-opposing-force) where
       let w : Words (carrying s.args.load) = omega arith in
       fits_abs (omega (arith, scaled_most w s.requires))
 
-  divisor_holds : Holds w64 (605000 * c.before.before.args.load.weight) (pos (605000 * c.before.before.args.load.weight))
+  divisor_holds : Holds w64 (605000 * c.args.load.weight) (pos (605000 * c.args.load.weight))
   divisor_holds = nat_holds (omega arith)
 
-cast-w : tie.Need-overflow-cast-w
+cast-w : tie.Need-overflow_cast-w
 cast-w c = search rules
 
-opposing-force-requires : tie.Need-opposing-force-requires
+opposing-force-requires : tie.Need-opposing_force-requires
 opposing-force-requires c κs = search rules
 
-mul-floor-div : tie.Need-overflow-mul-floor-div
+mul-floor-div : tie.Need-overflow_mul-opposing_force
 mul-floor-div c = op_fits ◌*ℤ◌ (factor_holds c) (force_holds c) (scaled_fits c)
 
-mul-floor-div-2 : tie.Need-overflow-mul-floor-div-2
+mul-floor-div-2 : tie.Need-overflow_mul-w
 mul-floor-div-2 c = search rules
 
-cast-floor-div : tie.Need-overflow-cast-floor-div
+cast-floor-div : tie.Need-overflow_cast-w-2
 cast-floor-div c = search rules
 
-floor-div-requires : tie.Need-floor-div-requires
+floor-div-requires : tie.Need-floor_div-requires
 floor-div-requires c κs = search rules
 
 returns : tie.Need-returns
 unfolding loss
 returns c =
     let b = c.before in
-    to_z-of_z (sfits_of c.floor-div.type-inv)
-    ∙ c.floor-div.ensures
+    to_z-of_z {w = w64} (sfits_of c.floor_div.type_inv)
+    ∙ c.floor_div.ensures
     ∙ both floor_div (op_holds ◌*ℤ◌ (factor_holds b) (force_holds b) (scaled_fits b)) (divisor_holds b)
 
 pub lost_spec : {M : Type 1} → statement M

@@ -66,76 +66,76 @@ module _ (c : tie.Start) where
   whole_fits = fits_abs (omega (arith, opposing_most words c.requires))
 
 -- from where the grade is read, the start
-abbrev entry : tie.After-struct-told → tie.Start
+abbrev entry : tie.After-struct_told-1 → tie.Start
 entry c = c.before.before.before.before.before
 
-cast-w : tie.Need-overflow-cast-w
+cast-w : tie.Need-overflow_cast-w
 cast-w c = search rules
 
-mul-drag : tie.Need-overflow-mul-drag
+mul-drag : tie.Need-overflow_mul-drag
 mul-drag c = search rules
 
-mul-drag-2 : tie.Need-overflow-mul-drag-2
+mul-drag-2 : tie.Need-overflow_mul-drag-2
 mul-drag-2 c = search rules
 
-add-drag : tie.Need-overflow-add-drag
+add-drag : tie.Need-overflow_add-drag
 add-drag c = search rules
 
-cast-drag : tie.Need-overflow-cast-drag
+cast-drag : tie.Need-overflow_cast-drag
 cast-drag c = search rules
 
-mul-drag-3 : tie.Need-overflow-mul-drag-3
+mul-drag-3 : tie.Need-overflow_mul-drag-3
 mul-drag-3 c = search rules
 
-add-drag-2 : tie.Need-overflow-add-drag-2
+add-drag-2 : tie.Need-overflow_add-drag-2
 add-drag-2 c = search rules
 
-mul-drag-4 : tie.Need-overflow-mul-drag-4
+mul-drag-4 : tie.Need-overflow_mul-drag-4
 mul-drag-4 c = omega (arith, drag_in c.before.before)
 
-mul-drag-5 : tie.Need-overflow-mul-drag-5
+mul-drag-5 : tie.Need-overflow_mul-drag-5
 mul-drag-5 c = omega (arith, drag_in c.before.before)
 
-add-drag-3 : tie.Need-overflow-add-drag-3
+add-drag-3 : tie.Need-overflow_add-drag-3
 add-drag-3 c = omega (arith, drag_in c.before.before)
 
-cast-drag-2 : tie.Need-overflow-cast-drag-2
+cast-drag-2 : tie.Need-overflow_cast-drag-2
 cast-drag-2 c = search rules
 
-mul-drag-6 : tie.Need-overflow-mul-drag-6
+mul-drag-6 : tie.Need-overflow_mul-drag-6
 mul-drag-6 c = omega (arith, drag_in c.before.before.before)
 
-mul-drag-7 : tie.Need-overflow-mul-drag-7
+mul-drag-7 : tie.Need-overflow_mul-drag-7
 mul-drag-7 c = omega (arith, drag_in c.before.before.before)
 
-add-drag-4 : tie.Need-overflow-add-drag-4
+add-drag-4 : tie.Need-overflow_add-drag-4
 add-drag-4 c = omega (arith, drag_in c.before.before.before)
 
-mul-pull : tie.Need-overflow-mul-pull
+mul-pull : tie.Need-overflow_mul-pull
 mul-pull c = search rules
 
-cast-pull : tie.Need-overflow-cast-pull
+cast-pull : tie.Need-overflow_cast-pull
 cast-pull c = search rules
 
-mul-pull-2 : tie.Need-overflow-mul-pull-2
+mul-pull-2 : tie.Need-overflow_mul-pull-2
 mul-pull-2 c = let s = entry c in op_fits ◌*ℤ◌ (factor_holds s) (grade_holds s) (pull_fits s)
 
-mul-bend : tie.Need-overflow-mul-bend
+mul-bend : tie.Need-overflow_mul-bend
 mul-bend c = omega (arith, bend_in (entry c.before))
 
-mul-bend-2 : tie.Need-overflow-mul-bend-2
+mul-bend-2 : tie.Need-overflow_mul-bend-2
 mul-bend-2 c = omega (arith, bend_in (entry c.before))
 
-cast-result : tie.Need-overflow-cast-result
+cast-result : tie.Need-overflow_cast-result
 cast-result c = fits_abs (omega (arith, drag_in (entry c.before)))
 
-add-result : tie.Need-overflow-add-result
+add-result : tie.Need-overflow_add-result
 add-result c = let s = entry c.before in op_fits ◌+ℤ◌ (drag_holds s) (pulled_holds s) (sum_fits s)
 
-cast-result-2 : tie.Need-overflow-cast-result-2
+cast-result-2 : tie.Need-overflow_cast-result-2
 cast-result-2 c = fits_abs (omega (arith, bend_in (entry c.before)))
 
-add-result-2 : tie.Need-overflow-add-result-2
+add-result-2 : tie.Need-overflow_add-result-2
 add-result-2 c = let s = entry c.before in op_fits ◌+ℤ◌ (sum_holds s) (bend_holds s) (whole_fits s)
 
 returns : tie.Need-returns

@@ -29,7 +29,7 @@ loss_most {c} {f} {s} {q} {u} w h =
 
 module _ (c : tie.After-lost) where
   abbrev rest : ℤ
-  rest = let a = c.before.args in pos a.q -ℤ loss (carrying a.load) a.f a.s a.q a.u.grade a.u.curvature
+  rest = let a = c.args in pos a.q -ℤ loss (carrying a.load) a.f a.s a.q a.u.grade a.u.curvature
 
   rest_most : nat_abs rest < 2 ^ 63
   rest_most =
@@ -38,45 +38,45 @@ module _ (c : tie.After-lost) where
       let w : Words (carrying a.load) = omega arith in
       omega (arith, abs_sub (pos a.q) (loss (carrying a.load) a.f a.s a.q a.u.grade a.u.curvature), loss_most w s.requires)
 
-  q_holds : Holds w64 c.before.args.q (pos c.before.args.q)
+  q_holds : Holds w64 c.args.q (pos c.args.q)
   q_holds = nat_holds (omega arith)
 
-  lost_holds : let a = c.before.args in Holds w64 (of_z w64 c.lost.result) (loss (carrying a.load) a.f a.s a.q a.u.grade a.u.curvature)
-  lost_holds = record { reads = to_z-of_z (sfits_of c.lost.type-inv) ∙ c.lost.ensures }
+  lost_holds : let a = c.args in Holds w64 (of_z w64 c.lost.result) (loss (carrying a.load) a.f a.s a.q a.u.grade a.u.curvature)
+  lost_holds = record { reads = to_z-of_z {w = w64} (sfits_of c.lost.type_inv) ∙ c.lost.ensures }
 
-  rest_fits : SFits w64 (to_z w64 c.before.args.q -ℤ to_z w64 (of_z w64 c.lost.result))
+  rest_fits : SFits w64 (to_z w64 c.args.q -ℤ to_z w64 (of_z w64 c.lost.result))
   rest_fits = op_fits ◌-ℤ◌ q_holds lost_holds (fits_abs rest_most)
 
-  rest_holds : Holds w64 (of_z w64 (to_z w64 c.before.args.q -ℤ to_z w64 (of_z w64 c.lost.result))) rest
+  rest_holds : Holds w64 (of_z w64 (to_z w64 c.args.q -ℤ to_z w64 (of_z w64 c.lost.result))) rest
   rest_holds = op_holds ◌-ℤ◌ q_holds lost_holds (fits_abs rest_most)
 
 -- what the test tells
-none_left : (c : tie.Then1) → 0 ≡ cut (rest c.before)
+none_left : (c : tie.Then-rest-le0) → 0 ≡ cut (rest c.before)
 none_left c =
     let z = rest c.before in
-    omega (arith, up_mono z (pos 0) (le_z-true z (pos 0) (rw (rest_holds c.before).reads at c.if1.true)))
+    omega (arith, up_mono z (pos 0) (le_z-true z (pos 0) (rw (rest_holds c.before).reads at c.if-rest-le0.true)))
 
-some_left : (c : tie.Else1) → AtMost (pos 0) (rest c.before)
+some_left : (c : tie.Else-rest-le0) → AtMost (pos 0) (rest c.before)
 some_left c =
     let z = rest c.before in
-    omega (arith, le_z-false z (pos 0) (rw (rest_holds c.before).reads at c.if1.false))
+    omega (arith, le_z-false z (pos 0) (rw (rest_holds c.before).reads at c.if-rest-le0.false))
 
-cast-rest : tie.Need-overflow-cast-rest
+cast-rest : tie.Need-overflow_cast-rest
 cast-rest c = search rules
 
 lost-requires : tie.Need-lost-requires
 lost-requires c κs = search rules
 
-sub-rest : tie.Need-overflow-sub-rest
+sub-rest : tie.Need-overflow_sub-rest
 sub-rest c = rest_fits c
 
-cast-result : tie.Need-overflow-cast-result
+cast-result : tie.Need-overflow_cast-result
 cast-result c = unsigned_fits (rest_holds c.before) (some_left c) (omega (arith, rest_most c.before, abs_parts (rest c.before)))
 
-returns : tie.Need-returns
+returns : tie.Need-returns-then-rest-le0
 returns c = none_left c
 
-returns-2 : tie.Need-returns-2
+returns-2 : tie.Need-returns-else-rest-le0
 returns-2 c = unsigned_is (rest_holds c.before) (some_left c)
 
 pub slowed_spec : {M : Type 1} → statement M

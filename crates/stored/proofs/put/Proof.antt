@@ -35,25 +35,25 @@ module _ (x : Session) (out l : List ℕ) (end : ℕ) (room : size_of x ≤ leng
       ∙ ap₂ (λ (b : List ℕ) (m : ℕ). (front_of x ++ b) ++ drop m out) e k
 
 -- past the front
-module _ (c : tie.After-put-front) where
-  abbrev sized : tie.After-size-for
+module _ (c : tie.After-put_front) where
+  abbrev sized : tie.After-size_for-end
   sized = c.before.before
 
   abbrev start : tie.Start
   start = sized.before.before.before
 
-put-behind-requires : tie.Need-put-behind-requires
+put-behind-requires : tie.Need-put_behind-requires
 put-behind-requires c κs =
     let front = c.before.before.before in
     let s = start front in
-    (few s.args.x s.pre.0, behind_room s.args.x s.args.out.now _ _ s.pre.1 front.put_front.ensures (sized front).size_for_lem.ensures)
+    (few s.args.x s.requires.0, behind_room s.args.x s.args.out.now _ _ s.requires.1 front.put_front.ensures (sized front).size_for-end.ensures)
 
 returns : tie.Need-returns
 returns c =
     let behind = c.before.before in
     let front = behind.before.before.before.before in
     let s = start front in
-    both_put s.args.x s.args.out.now _ _ s.pre.1 front.put_front.ensures (sized front).size_for_lem.ensures _ behind.put-behind.ensures
+    both_put s.args.x s.args.out.now _ _ s.requires.1 front.put_front.ensures (sized front).size_for-end.ensures _ behind.put_behind.ensures
 
 pub put_spec : {M : Type 1} → statement M
 put_spec =

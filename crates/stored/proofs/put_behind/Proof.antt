@@ -26,22 +26,22 @@ some_put : (n : ℕ) (s out : List ℕ) → 0 < n → behind_for n ≡ length ou
 some_put zero s out h room = absurd (omega arith)
 some_put (suc n) s out h room = resealed_over s (drop (4 * suc n) out) (simp length-drop (omega arith))
 
-module _ (c : tie.Else1) where
+module _ (c : tie.Else-b-eq0) where
   abbrev start : tie.Start
   start = c.before.before.before
 
   some : 0 < start.args.b.count
-  some = pos_of_ne-zero c.if1.false
+  some = pos_of_ne-zero c.if-b-eq0.false
 
-returns : tie.Need-returns
-returns c = none_put _ _ _ c.if1.true c.before.before.before.requires.1
+returns : tie.Need-returns-then-b-eq0
+returns c = none_put _ _ _ c.if-b-eq0.true c.requires.1
 
-returns-2 : tie.Need-returns-2
+returns-2 : tie.Need-returns
 returns-2 c =
     let sealed = c.before.before in
     let put = sealed.before.before.before.before in
     let k = put.before.before in
-    sealed.put-check-word.ensures
+    sealed.put_check_word.ensures
     ∙ ap resealed put.put.ensures
     ∙ some_put (start k).args.b.count (blocks.bytes_of (start k).args.b) (start k).args.out.now (some k) (start k).requires.1
 
@@ -50,5 +50,5 @@ put_behind_spec =
     tie.close
     (tie.spec
     returns
-    (λ c κs. ((start c.before).pre.0, omega (arith, some_room _ _ (some c.before) (start c.before).pre.1)))
+    (λ c κs. ((start c.before).requires.0, omega (arith, some_room _ _ (some c.before) (start c.before).requires.1)))
     (λ c κs. search rules) (λ c. search rules) returns-2)

@@ -14,10 +14,10 @@ returns c =
     let put = c.before.before in
     let lent = put.before.before.before in
     let marked = lent.before.before.before.before in
-    let x = marked.before.before.before.args.x in
-    let out = marked.before.before.before.args.out.now in
-    put.put-fields.ensures
-    ∙ (λ i. put_from 0 (take 4 widths) (marked.mark-for.ensures i ∷ x.cause ∷ x.emergency ∷ same_bit x.brake.sampled i ∷ []) out)
+    let x = marked.args.x in
+    let out = marked.args.out.now in
+    put.put_fields.ensures
+    ∙ (λ i. put_from 0 (take 4 widths) (marked.mark_for-mark.ensures i ∷ x.cause ∷ x.emergency ∷ same_bit x.brake.sampled i ∷ []) out)
 
 pub put_first_spec : {M : Type 1} → statement M
 put_first_spec =

@@ -66,12 +66,12 @@ returns c =
     let alone_at = written.before.before in
     let own = alone_at.before.before.before in
     let start = own.before.before.before in
-    let a = start.before.args in
-    all_put a.x start.before.requires.0 a.out.now _ _ _ _ (λ i. (start.slice-known.given i).fits) start.before.requires.1
-    own.put-own.ensures
+    let a = start.args in
+    all_put a.x start.requires.0 a.out.now _ _ _ _ (λ i. (start.slice_known-1.given i).fits) start.requires.1
+    own.put_own.ensures
     alone_at.alone.ensures
     (λ i. (written.write.ensures i).1)
-    sealed.put-check-word.ensures
+    sealed.put_check_word.ensures
 
 pub put_front_spec : {M : Type 1} → statement M
 put_front_spec =

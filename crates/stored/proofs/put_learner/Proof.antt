@@ -12,10 +12,10 @@ returns c =
     let sums = c.before.before in
     let points = sums.before.before.before.before in
     let stage = points.before.before.before.before in
-    let x = stage.before.before.before.args.x in
-    sums.put-sums.ensures
+    let x = stage.args.x in
+    sums.put_sums.ensures
     ∙ ap (put_from 287 (drop 22 widths) (drop 22 (fields_of x)))
-    (points.put-points.ensures ∙ ap (put_from 244 (take 3 (drop 19 widths)) (take 3 (drop 19 (fields_of x)))) stage.put-stage.ensures)
+    (points.put_points.ensures ∙ ap (put_from 244 (take 3 (drop 19 widths)) (take 3 (drop 19 (fields_of x)))) stage.put_stage.ensures)
 
 pub put_learner_spec : {M : Type 1} → statement M
 put_learner_spec = tie.close (tie.spec (λ c κs. search rules) (λ c κs. search rules) (λ c κs. search rules) (λ c. search rules) returns)

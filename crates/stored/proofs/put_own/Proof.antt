@@ -14,14 +14,14 @@ returns c =
     let pressures = back.before.before.before.before in
     let state = pressures.before.before.before.before in
     let front = state.before.before.before.before in
-    let x = front.before.before.before.args.x in
-    learner.put-learner.ensures
+    let x = front.args.x in
+    learner.put_learner.ensures
     ∙ ap (put_from 192 (drop 15 widths) (drop 15 (fields_of x)))
     (back.put_back.ensures
     ∙ ap (put_from 120 (take 4 (drop 11 widths)) (take 4 (drop 11 (fields_of x))))
-    (pressures.put-pressures.ensures
+    (pressures.put_pressures.ensures
     ∙ ap (put_from 56 (take 4 (drop 7 widths)) (take 4 (drop 7 (fields_of x))))
-    (state.put-state.ensures ∙ ap (put_from 25 (take 3 (drop 4 widths)) (take 3 (drop 4 (fields_of x)))) front.put_first.ensures)))
+    (state.put_state.ensures ∙ ap (put_from 25 (take 3 (drop 4 widths)) (take 3 (drop 4 (fields_of x)))) front.put_first.ensures)))
 
 pub put_own_spec : {M : Type 1} → statement M
 put_own_spec =

@@ -12,10 +12,10 @@ returns : tie.Need-returns
 returns c =
     let put = c.before.before in
     let number = put.before.before.before.before.before.before.before in
-    let a = number.before.before.before.args in
+    let a = number.args in
     let l = a.x.learner in
-    put.put-fields.ensures
-    ∙ (λ i. put_from 192 (take 4 (drop 15 widths)) (number.stage-number.ensures i ∷ l.since ∷ l.init ∷ l.last ∷ []) a.out.now)
+    put.put_fields.ensures
+    ∙ (λ i. put_from 192 (take 4 (drop 15 widths)) (number.stage_number-number.ensures i ∷ l.since ∷ l.init ∷ l.last ∷ []) a.out.now)
 
 pub put_stage_spec : {M : Type 1} → statement M
 put_stage_spec =

@@ -14,9 +14,9 @@ returns c =
     let last = put.before.before.before.before in
     let number = last.before in
     let chosen = number.before in
-    let out = chosen.before.before.before.args.out.now in
-    put.put-fields.ensures
-    ∙ (λ i. put_from 25 (take 3 (drop 4 widths)) (chosen.choice-number.ensures i ∷ number.state-number.ensures i ∷ last.heard-number.ensures i ∷ []) out)
+    let out = chosen.args.out.now in
+    put.put_fields.ensures
+    ∙ (λ i. put_from 25 (take 3 (drop 4 widths)) (chosen.choice_number-chosen.ensures i ∷ number.state_number-number.ensures i ∷ last.heard_number-last.ensures i ∷ []) out)
 
 pub put_state_spec : {M : Type 1} → statement M
 put_state_spec =

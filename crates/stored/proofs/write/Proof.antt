@@ -17,40 +17,40 @@ use Rattle.stored.proofs.write.Statement.{statement}
 use Rattle.stored.proofs.write.Tie as tie
 
 -- the points of the code: its start, and past the first rule
-abbrev start : tie.After-enum-told → tie.Start
-start c = c.before.before.before.before.before
+abbrev start : tie.In-On → tie.Start
+start c = c.before.before.before.before
 
-abbrev first : tie.After-enum-told3 → tie.After-enum-told
-first c = c.before.before.before.before
+abbrev first : tie.In-On-unless → tie.In-On
+first c = c.before.before.before
 
-past_open : (c : tie.After-enum-told) → is_open (start c).args.x ≡ true
-past_open c = sym c.before.before.before.is_open.ensures ∙ not-false _ (on_unless _ (sym c.enum_told.given.1 ∙ c.before.before.unless.ensures))
+past_open : (c : tie.In-On) → is_open (start c).args.x ≡ true
+past_open c = sym c.is_open.ensures ∙ not-false _ (on_unless _ (sym c.in-On.is ∙ c.unless.ensures))
 
-past_room : (c : tie.After-enum-told3) → size_of (start (first c)).args.x ≤ length (start (first c)).args.out.now
+past_room : (c : tie.In-On-unless) → size_of (start (first c)).args.x ≤ length (start (first c)).args.out.now
 past_room c =
-    let sized = c.before.before.before in
+    let sized = c.before.before in
     let out = (start (first c)).args.out.now in
     ltb-false (length out) (size_of (start (first c)).args.x)
-    (ap (ltb (length out)) (sym sized.size_for_lem.ensures) ∙ on_unless _ (sym c.enum-told3.given.1 ∙ c.before.before.unless2.ensures))
+    (ap (ltb (length out)) (sym sized.size_for-size.ensures) ∙ on_unless _ (sym c.in-On-unless.is ∙ c.unless-2.ensures))
 
-returns : tie.Need-returns
+returns : tie.Need-returns-in_default
 returns c =
-    let closed = ap not (sym c.before.before.before.is_open.ensures) ∙ off_unless _ (sym c.enum-told2.given.1 ∙ c.before.before.unless.ensures) in
+    let closed = ap not (sym c.is_open.ensures) ∙ off_unless _ (sym c.in_default.is ∙ c.unless.ensures) in
     ap told (sym (write_is _ _ true _ closed refl))
 
-returns-2 : tie.Need-returns-2
+returns-2 : tie.Need-returns-in_default-unless
 unfolding no_room
 returns-2 c =
-    let sized = c.before.before.before in
+    let sized = c.before.before in
     let past = sized.before in
     let out = (start past).args.out.now in
-    let full = ap (ltb (length out)) (sym sized.size_for_lem.ensures) ∙ off_unless _ (sym c.enum-told4.given.1 ∙ c.before.before.unless2.ensures) in
+    let full = ap (ltb (length out)) (sym sized.size_for-size.ensures) ∙ off_unless _ (sym c.in_default-unless.is ∙ c.unless-2.ensures) in
     ap told (sym (write_is _ _ false true (ap not (past_open past)) full))
 
-returns-3 : tie.Need-returns-3
+returns-3 : tie.Need-returns
 returns-3 c =
     let room = c.before.before.before.before in
-    ap told ((λ i. (Accepted, c.before.before.put.ensures i)) ∙ sym (write_accepted _ _ (past_open (first room)) (past_room room)))
+    ap told ((λ i. (Accepted, c.put.ensures i)) ∙ sym (write_accepted _ _ (past_open (first room)) (past_room room)))
 
 pub write_spec : {M : Type 1} → statement M
 write_spec =

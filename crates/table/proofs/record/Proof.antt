@@ -15,19 +15,19 @@ use Rattle.table.proofs.record.Statement.{statement}
 use Rattle.table.proofs.record.Tie as tie
 
 -- record k lies in s
-lies : (c : tie.Then1) → c.before.args.size * c.before.args.k + c.before.args.size ≤ length c.before.args.s.now
-lies c = inside c.before.args.size c.before.args.s.now c.before.args.k c.before.requires c.if1.true
+lies : (c : tie.Then-k-s) → c.args.size * c.args.k + c.args.size ≤ length c.args.s.now
+lies c = inside c.args.size c.args.s.now c.args.k c.requires c.if-k-s.true
 
-returns : tie.Need-returns
+returns : tie.Need-returns-then-k-s
 unfolding part_at
 returns c =
-    let a = c.before.before.args in
+    let a = c.args in
     ap (λ (n : ℕ). take n (drop (a.size * a.k) a.s.now)) (add-sub_cancel_left (a.size * a.k) a.size)
-    ∙ sym (ap (λ (b : Bool). cond b (part a.size a.s.now a.k) []) (lt-ltb a.k (length a.s.now / a.size) c.before.if1.true))
+    ∙ sym (ap (λ (b : Bool). cond b (part a.size a.s.now a.k) []) (lt-ltb a.k (length a.s.now / a.size) c.if-k-s.true))
 
-returns-2 : tie.Need-returns-2
+returns-2 : tie.Need-returns-else-k-s
 unfolding part_at
-returns-2 c = rw (le-ltb c.before.before.args.k (length c.before.before.args.s.now / c.before.before.args.size) c.before.if1.false)
+returns-2 c = rw (le-ltb c.args.k (length c.args.s.now / c.args.size) c.if-k-s.false)
 
 pub record_spec : {M : Type 1} → statement M
 record_spec =

@@ -1,6 +1,6 @@
 -- `targets::rows_keep` meets its contract: the records before k are judged, and `before` is the location of the last of them. Assumes nothing.
-use mathlib.Core.Path.{◌≡◌, refl, sym, ◌∙◌}
-use mathlib.Core.Bool.{true, and-true}
+use mathlib.Core.Path.{ap, ◌≡◌, refl, sym, ◌∙◌}
+use mathlib.Core.Bool.{not, true, and-true}
 use Prim.Native.Nat.{◌-◌}
 use native.Mathlib.Omega.{arith}
 use lib.ListN.{length}
@@ -12,38 +12,38 @@ use Rattle.targets.proofs.Sound.{counted_is}
 use Rattle.targets.proofs.rows_keep.Statement.{statement}
 use Rattle.targets.proofs.rows_keep.Tie as tie
 
-abbrev invariant-loop : tie.invariant-loop
+abbrev invariant-loop : tie.invariant-loop-k
 invariant-loop locations speeds n good₀ before₀ k₀ good before k = Judged targets n (target_of locations speeds) (λ i. true) k good before
 
-abbrev decreases-loop : tie.decreases-loop
+abbrev decreases-loop : tie.decreases-loop-k
 decreases-loop locations speeds n good₀ before₀ k₀ good before k = n - k
 
-returns : tie.Need-returns invariant-loop decreases-loop
+returns : tie.Need-returns-then-not-speeds-n invariant-loop decreases-loop
 returns c =
-    let a = c.before.before.before.args in
+    let a = c.args in
     let b = same a.locations.now a.speeds.now in
-    sym (lawful_wrong targets _ (target_of a.locations.now a.speeds.now) (λ i. true) b (counted_is b (length a.locations.now)) c.if1.true)
+    sym (lawful_wrong targets _ (target_of a.locations.now a.speeds.now) (λ i. true) b (counted_is b (length a.locations.now)) (ap not c.if-not-speeds-n.true))
 
-row-at-requires : tie.Need-row-at-requires invariant-loop decreases-loop
+row-at-requires : tie.Need-row_at-g-requires invariant-loop decreases-loop
 row-at-requires c κs =
-    let a = c.before.before.before.before.before.args in
-    let e : length a.speeds.now ≡ length a.locations.now = eqb-true _ _ (and-true_left _ _ (not-false _ c.before.before.if1.false)) in
+    let a = c.args in
+    let e : length a.speeds.now ≡ length a.locations.now = eqb-true _ _ (and-true_left _ _ (c.if-not-speeds-n.false)) in
     omega arith
 
-loop_again : tie.Need-loop-preserved invariant-loop decreases-loop
+loop_again : tie.Need-loop-k-preserved invariant-loop decreases-loop
 loop_again c =
-    let l = c.before.before.before.loop in
-    judged_next targets _ _ _ l.k l.good l.before _ _ _ l.invariant c.before.before.loop-test.true c.before.row_at.ensures refl c.good-after.ensures
+    let l = c.loop-k in
+    judged_next targets _ _ _ l.k l.good l.before _ _ _ l.invariant c.loop-k-test.true c.row_at-g.ensures refl c.good_after-good.ensures
 
-returns-2 : tie.Need-returns-2 invariant-loop decreases-loop
+returns-2 : tie.Need-returns invariant-loop decreases-loop
 returns-2 c =
-    let a = c.before.before.before.before.before.args in
+    let a = c.args in
     let n = length a.locations.now in
     let f = target_of a.locations.now a.speeds.now in
     let b = same a.locations.now a.speeds.now in
-    let l = c.before.loop in
+    let l = c.loop-k in
     sym
-    (lawful_judged targets n f (λ i. true) b (counted_is b n) c.before.before.if1.false l.k l.good l.before true l.invariant c.loop-test.false
+    (lawful_judged targets n f (λ i. true) b (counted_is b n) (ap not c.if-not-speeds-n.false) l.k l.good l.before true l.invariant c.loop-k-test.false
     (closed_any targets (λ g. refl) n f)
     ∙ and-true l.good)
 

@@ -10,7 +10,7 @@ use Rattle.targets.proofs.target_at.Tie as tie
 
 returns : tie.Need-returns
 unfolding record_at
-returns c = rw (c.before.field.ensures.0, c.field2.ensures.0) (ap of_fields (fields_at_lem targets facts _ _ _ c.before.before.record.ensures))
+returns c = rw (c.field.ensures.0, c.field-2.ensures.0) (ap of_fields (fields_at_lem targets facts _ _ _ c.record-s.ensures))
 
 pub target_at_spec : {M : Type 1} → statement M
 target_at_spec =

@@ -15,56 +15,56 @@ use Rattle.targets.proofs.Sound.{facts}
 use Rattle.targets.proofs.write.Statement.{statement}
 use Rattle.targets.proofs.write.Tie as tie
 
-abbrev invariant-loop : tie.invariant-loop
+abbrev invariant-loop : tie.invariant-loop-k
 invariant-loop locations speeds out₀ k₀ k_end out k = Put targets (target_of locations speeds) (same locations speeds) (length locations) out₀ k out
 
-abbrev decreases-loop : tie.decreases-loop
+abbrev decreases-loop : tie.decreases-loop-k
 decreases-loop locations speeds out₀ k₀ k_end out k = length locations - k
 
-returns : tie.Need-returns invariant-loop decreases-loop
+returns : tie.Need-returns-in_default invariant-loop decreases-loop
 returns c =
-    let no = off_unless _ (sym c.enum-told2.given.1 ∙ c.before.before.unless.ensures) in
-    ap told (sym (write_is targets _ facts _ _ _ false _ (sym c.before.before.before.rows-keep.ensures ∙ not-true _ no) refl))
+    let no = off_unless _ (sym c.in_default.is ∙ c.unless.ensures) in
+    ap told (sym (write_is targets _ facts _ _ _ false _ (sym c.rows_keep.ensures ∙ not-true _ no) refl))
 
 -- at the start, and past the rules
-abbrev begun : tie.After-enum-told invariant-loop decreases-loop → tie.After-slice-known invariant-loop decreases-loop
-begun c = c.before.before.before.before
+abbrev begun : tie.In-On invariant-loop decreases-loop → tie.After-slice_known-1 invariant-loop decreases-loop
+begun c = c.before.before.before
 
-abbrev ruled : tie.After-enum-told3 invariant-loop decreases-loop → tie.After-enum-told invariant-loop decreases-loop
-ruled c = c.before.before.before
+abbrev ruled : tie.In-On-unless invariant-loop decreases-loop → tie.In-On invariant-loop decreases-loop
+ruled c = c.before.before
 
-past_rules : (c : tie.After-enum-told invariant-loop decreases-loop) → let a = (begun c).before.before.before.args in lawful_of a.locations.now a.speeds.now ≡ true
-past_rules c = sym c.before.before.before.rows-keep.ensures ∙ not-false _ (on_unless _ (sym c.enum_told.given.1 ∙ c.before.before.unless.ensures))
+past_rules : (c : tie.In-On invariant-loop decreases-loop) → let a = (begun c).args in lawful_of a.locations.now a.speeds.now ≡ true
+past_rules c = sym c.rows_keep.ensures ∙ not-false _ (on_unless _ (sym c.in-On.is ∙ c.unless.ensures))
 
-returns-2 : tie.Need-returns-2 invariant-loop decreases-loop
+returns-2 : tie.Need-returns-in_default-unless invariant-loop decreases-loop
 unfolding no_room
 returns-2 c =
-    let rules = c.before.before.before in
-    let a = (begun rules).before.before.before.args in
-    let no = off_unless _ (sym c.enum-told4.given.1 ∙ c.before.before.unless2.ensures) in
+    let rules = c.before.before in
+    let a = (begun rules).args in
+    let no = off_unless _ (sym c.in_default-unless.is ∙ c.unless-2.ensures) in
     let f = target_of a.locations.now a.speeds.now in
     ap told (sym (write_is targets f facts (same a.locations.now a.speeds.now) _ a.out.now true true (past_rules rules) no))
 
-loop_holds : tie.Need-loop-init invariant-loop decreases-loop
+loop_holds : tie.Need-loop-k-init invariant-loop decreases-loop
 loop_holds c =
-    let yes = on_unless _ (sym c.enum-told3.given.1 ∙ c.before.before.unless2.ensures) in
-    put_none targets _ _ _ _ (past_rules c.before.before.before) (ltb-false _ _ yes)
+    let yes = on_unless _ (sym c.in-On-unless.is ∙ c.unless-2.ensures) in
+    put_none targets _ _ _ _ (past_rules c.before.before) (ltb-false _ _ yes)
 
-row-at-requires : tie.Need-row-at-requires invariant-loop decreases-loop
+row-at-requires : tie.Need-row_at-requires invariant-loop decreases-loop
 row-at-requires c κs =
-    let a = (begun (ruled c.before.before)).before.before.before.args in
-    let e : length a.speeds.now ≡ length a.locations.now = eqb-true _ _ (and-true_left _ _ c.before.loop.invariant.right) in
+    let a = (begun (ruled c.before.before)).args in
+    let e : length a.speeds.now ≡ length a.locations.now = eqb-true _ _ (and-true_left _ _ c.loop-k.invariant.right) in
     omega arith
 
-loop_again : tie.Need-loop-preserved invariant-loop decreases-loop
+loop_again : tie.Need-loop-k-preserved invariant-loop decreases-loop
 loop_again c =
     let row = c.before.before.before.before in
     let at = row.before.before in
-    put_next targets _ facts at.loop.invariant row.before.loop-test.true (λ i. ((begun (ruled at.before)).slice-known.given i).fits) _ row.row_at.ensures _
-    c.before.before.put.ensures
+    put_next targets _ facts at.loop-k.invariant row.loop-k-test.true (λ i. ((begun (ruled at.before)).slice_known-1.given i).fits) _ row.row_at.ensures _
+    c.put.ensures
 
-returns-3 : tie.Need-returns-3 invariant-loop decreases-loop
-returns-3 c = ap told (put_all_of targets _ facts c.before.loop.invariant c.loop-test.false)
+returns-3 : tie.Need-returns invariant-loop decreases-loop
+returns-3 c = ap told (put_all_of targets _ facts c.loop-k.invariant c.loop-k-test.false)
 
 pub write_spec : {M : Type 1} → statement M
 write_spec =

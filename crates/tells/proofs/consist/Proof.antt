@@ -8,7 +8,7 @@ use Rattle.tells.proofs.consist.Tie as tie
 
 returns : tie.Need-returns
 unfolding consist_judged read_consist
-returns c = number_of_lem c.verdict-number.ensures c.before.read.ensures
+returns c = number_of_lem c.verdict_number.ensures c.read-answer.ensures
 
 pub consist_spec : {M : Type 1} → statement M
 consist_spec = tie.close (tie.spec (λ c κs. search rules) (λ c κs. search rules) returns)

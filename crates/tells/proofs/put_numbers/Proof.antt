@@ -19,9 +19,9 @@ five_stores (x₀ ∷ x₁ ∷ x₂ ∷ x₃ ∷ x₄ ∷ xs) a b c d e h = refl
 
 returns : tie.Need-returns
 returns c =
-    let start = c.before.before.before.args in
+    let start = c.args in
     ap (λ (n : ℕ). set (set (set (set (set start.out.now 0 start.d.time) 1 start.d.state) 2 n) 3 start.d.cause) 4 start.d.stop) (same_bit start.d.penalty)
-    ∙ five_stores start.out.now _ _ _ _ _ c.before.before.before.requires
+    ∙ five_stores start.out.now _ _ _ _ _ c.requires
 
 pub put_numbers_spec : {M : Type 1} → statement M
 put_numbers_spec =

@@ -8,7 +8,7 @@ use Rattle.tells.proofs.targets.Tie as tie
 
 returns : tie.Need-returns
 unfolding targets_judged judge
-returns c = number_of_lem c.verdict-number.ensures c.before.judge.ensures
+returns c = number_of_lem c.verdict_number.ensures c.judge-judged.ensures
 
 pub targets_spec : {M : Type 1} → statement M
 targets_spec = tie.close (tie.spec (λ c κs. search rules) (λ c κs. search rules) returns)

@@ -46,24 +46,24 @@ module _ (c : tie.Start) where
   gained : to_z w64 (of_z w64 (to_z w64 (of_z w64 at_head) -ℤ to_z w64 (of_z w64 at_rear))) ≡ at_head -ℤ at_rear
   gained = (op_holds ◌-ℤ◌ head_holds rear_holds gain_fits).reads
 
-sub-grade-over : tie.Need-overflow-sub-grade-over
+sub-grade-over : tie.Need-overflow_sub-head
 sub-grade-over c = let s = c.before.before.before.before.before in op_fits ◌-ℤ◌ (head_holds s) (rear_holds s) (gain_fits s)
 
-grade-over-requires : tie.Need-grade-over-requires
+grade-over-requires : tie.Need-grade_over-requires
 grade-over-requires c κs = let s = c.before.before.before.before.before in rw (gained s) (gain_most s)
 
-returns : tie.Need-returns
-returns c = let a = c.before.args in none a.rear a.head a.length c.if1.true
+returns : tie.Need-returns-then-length-eq0
+returns c = let a = c.args in none a.rear a.head a.length c.if-length-eq0.true
 
-returns-2 : tie.Need-returns-2
+returns-2 : tie.Need-returns
 returns-2 c =
     let g = c.before.before.before in
     let s = g.before.before.before.before.before.before in
     ap₂ (λ (z : ℤ) (n : ℕ). record { grade = z; curvature = n })
-    (to_z-of_z (sfits_of g.grade-over.type-inv)
-    ∙ g.grade-over.ensures
+    (to_z-of_z {w = w64} (sfits_of g.grade_over.type_inv)
+    ∙ g.grade_over.ensures
     ∙ ap (λ (z : ℤ). floor_div (pos 100 *ℤ z) (pos s.args.length)) (gained s))
-    c.curvature-over.ensures
+    c.curvature_over.ensures
 
 pub averages_spec : {M : Type 1} → statement M
 averages_spec =

@@ -25,20 +25,20 @@ module _ (c : tie.Start) where
   finer_fits : SFits w64 finer
   finer_fits = fits_abs (omega (arith, abs_times 100 c.args.sum, c.requires))
 
-mul-floor-div : tie.Need-overflow-mul-floor-div
+mul-floor-div : tie.Need-overflow_mul-sum
 mul-floor-div c = op_fits ◌*ℤ◌ (hundred_holds c) (sum_holds c) (finer_fits c)
 
-cast-floor-div : tie.Need-overflow-cast-floor-div
+cast-floor-div : tie.Need-overflow_cast-length
 cast-floor-div c = search rules
 
-floor-div-requires : tie.Need-floor-div-requires
+floor-div-requires : tie.Need-floor_div-requires
 floor-div-requires c κs = search rules
 
 returns : tie.Need-returns
 returns c =
     let s = c.before in
-    to_z-of_z (sfits_of c.floor-div.type-inv)
-    ∙ c.floor-div.ensures
+    to_z-of_z {w = w64} (sfits_of c.floor_div.type_inv)
+    ∙ c.floor_div.ensures
     ∙ both floor_div (op_holds ◌*ℤ◌ (hundred_holds s) (sum_holds s) (finer_fits s)) (nat_holds (omega arith))
 
 pub grade_over_spec : {M : Type 1} → statement M

@@ -40,45 +40,45 @@ elsewhere starts last x k f e g = rw (g, e)
 
 -- ---- the branches
 
-near_by : (c : tie.Then2) → let a = c.before.before.before.before.args in
+near_by : (c : tie.Then-start-location) → let a = c.args in
     (get_or a.starts.now a.near 0 ≤ a.location) × (a.location < get_or a.starts.now (a.near + 1) 0)
 near_by c =
-    let a = c.before.before.before.before.args in
-    inside (get_or a.starts.now a.near 0) a.location (get_or a.starts.now (a.near + 1) 0) c.if2.true
+    let a = c.args in
+    inside (get_or a.starts.now a.near 0) a.location (get_or a.starts.now (a.near + 1) 0) c.if-start-location.true
 
-returns : tie.Need-returns
+returns : tie.Need-returns-then-start-location
 returns c =
     let t = c.before.before.before in
-    let a = t.before.args in
-    still a.starts.now a.last a.location a.near t.before.requires t.if1.true (near_by c)
+    let a = t.args in
+    still a.starts.now a.last a.location a.near t.requires t.if-near-last.true (near_by c)
 
 -- the segment is found
-among : (c : tie.After-segment-of) → let s = c.before.before in (c.segment-of.result ≤ s.args.last) × (s.args.last < 257)
+among : (c : tie.After-segment_of-k) → let s = c.before.before in (c.segment_of-k.result ≤ s.args.last) × (s.args.last < 257)
 among c =
     let s = c.before.before in
-    (omega (arith, c.segment-of.ensures, holding_most s.args.starts.now s.args.location s.args.last), s.requires.few)
+    (omega (arith, c.segment_of-k.ensures, holding_most s.args.starts.now s.args.location s.args.last), s.requires.few)
 
-returns-2 : tie.Need-returns-2
+returns-2 : tie.Need-returns
 returns-2 c =
     let k = c.before.before.before in
-    let a = k.before.before.args in
-    elsewhere a.starts.now a.last a.location k.segment-of.result c.feet-to.result k.segment-of.ensures c.feet-to.ensures
+    let a = k.args in
+    elsewhere a.starts.now a.last a.location k.segment_of-k.result c.feet_to.result k.segment_of-k.ensures c.feet_to.ensures
 
 pub place_of_spec : {M : Type 1} → statement M
 place_of_spec =
     tie.close
     (tie.spec
     (λ c. search rules)
-    (λ c. omega (arith, c.before.requires.few))
-    (λ c. omega (arith, c.before.requires.few))
-    (λ c. omega (arith, c.before.before.requires.few))
-    (λ c. omega (arith, c.before.before.requires.few))
+    (λ c. omega (arith, c.requires.few))
+    (λ c. omega (arith, c.requires.few))
+    (λ c. omega (arith, c.requires.few))
+    (λ c. omega (arith, c.requires.few))
     (λ c. omega (arith, near_by c))
     returns
     (λ c κs. search rules)
     (λ c. omega (arith, among c))
-    (λ c. omega (arith, among c))
     (λ c. omega (arith, among c.before))
-    (λ c. omega (arith, among c.before))
+    (λ c. omega (arith, among c.before.before))
+    (λ c. omega (arith, among c.before.before))
     (λ c κs. search rules)
     returns-2)

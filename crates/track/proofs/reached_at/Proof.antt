@@ -23,7 +23,7 @@ unfolding grade_to curvature_to
 together t x p s r e total_is plus_is = rw (plus_is, total_is, e)
 
 -- where the place is found
-module _ (c : tie.After-place-of) where
+module _ (c : tie.After-place_of-place) where
   abbrev start : tie.Start
   start = c.before.before
 
@@ -31,11 +31,11 @@ module _ (c : tie.After-place-of) where
   track = let a = start.args in track_of a.count a.starts.now a.grades.now a.curvatures.now
 
   abbrev segment : ℕ
-  segment = c.place_of.result.segment
+  segment = c.place_of-place.result.segment
 
-  place_is : c.place_of.result ≡ place_of start.args.starts.now (segments track) start.args.location
+  place_is : c.place_of-place.result ≡ place_of start.args.starts.now (segments track) start.args.location
   place_is =
-      c.place_of.ensures ∙ ap (λ (n : ℕ). place_of start.args.starts.now n start.args.location) c.before.segments.ensures
+      c.place_of-place.ensures ∙ ap (λ (n : ℕ). place_of start.args.starts.now n start.args.location) c.segments-last.ensures
 
   found : segment ≡ holding track start.args.location
   found = ap (λ (p : Place). p.segment) place_is
@@ -44,18 +44,18 @@ module _ (c : tie.After-place-of) where
   among = omega (arith, found, holding_most start.args.starts.now start.args.location (segments track))
 
 -- where its total is read
-read_is : (c : tie.After-kept) → let f = c.before in c.kept.result ≡ total_of (track f) (segment f)
-read_is c = let f = c.before in c.kept.ensures ∙ kept_total (track f) (segment f) (among f) _ _ (start f).requires.1
+read_is : (c : tie.After-kept-total) → let f = c.before in c.kept-total.result ≡ total_of (track f) (segment f)
+read_is c = let f = c.before in c.kept-total.ensures ∙ kept_total (track f) (segment f) (among f) _ _ (start f).requires.1
 
-place-of-requires : tie.Need-place-of-requires
+place-of-requires : tie.Need-place_of-place-requires
 place-of-requires c κs =
-    let e = c.segments.ensures in
-    record { few = omega arith; each = λ k l. c.before.requires.0.rising.starts k (omega arith) }
+    let e = c.segments-last.ensures in
+    record { few = omega arith; each = λ k l. c.requires.0.rising.starts k (omega arith) }
 
-kept-requires : tie.Need-kept-requires
+kept-requires : tie.Need-kept-total-requires
 kept-requires c κs = omega (arith, among c)
 
-along-requires : tie.Need-along-requires
+along-requires : tie.Need-along-sums-requires
 along-requires c κs =
     let f = c.before in (
       subst (Sized most) (sym (read_is c ∙ ap (total_of (track f)) (found f))) (held_sized (track f) (start f).requires.0 (start f).args.location (omega arith)),
@@ -66,7 +66,7 @@ returns : tie.Need-returns
 returns c =
     let r = c.before in
     let f = r.before in
-    together (track f) (start f).args.location f.place_of.result r.kept.result c.along.result (place_is f) (read_is r) c.along.ensures.sum
+    together (track f) (start f).args.location f.place_of-place.result r.kept-total.result c.along-sums.result (place_is f) (read_is r) c.along-sums.ensures.sum
 
 pub reached_at_spec : {M : Type 1} → statement M
 reached_at_spec = tie.close (tie.spec (λ c κs. search rules) place-of-requires kept-requires along-requires returns)

@@ -7,15 +7,15 @@ use Rattle.track.proofs.Holding.{holding_most, holding_twice}
 use Rattle.track.proofs.segment_of.Statement.{statement}
 use Rattle.track.proofs.segment_of.Tie as tie
 
-on-from-requires : tie.Need-on-from-requires
+on-from-requires : tie.Need-on_from-requires
 on-from-requires c κs =
-    let a = c.before.before.args in
+    let a = c.args in
     let starts = a.starts.now in
     let x = a.location in
-    let from = c.before.lesser.result in
-    let e : c.back_from.result ≡ holding_to starts x from = c.back_from.ensures in
+    let from = c.lesser-from.result in
+    let e : c.back_from-k.result ≡ holding_to starts x from = c.back_from-k.ensures in
     record {
-      rises = c.before.before.requires;
+      rises = c.requires;
       among = omega (arith, holding_most starts x from);
       holds = ap (holding_to starts x) e ∙ holding_twice starts x from ∙ sym e;
     }

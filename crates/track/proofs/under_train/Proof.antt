@@ -38,20 +38,20 @@ module _ (t : Track) (gentle : Gentle t) (head length : ℕ) (fits : head < 2 ^ 
 
 -- ---- where both totals are known
 
-module _ (c : tie.After-reached-at2) where
+module _ (c : tie.After-reached_at-at_rear) where
   abbrev start : tie.Start
   start = c.before.before.before
 
   abbrev track : Track
   track = let a = start.args in track_of a.count a.starts.now a.grades.now a.curvatures.now
 
-  head_is : c.before.before.reached-at.result ≡ reached_of track start.args.head
-  head_is = c.before.before.reached-at.ensures
+  head_is : c.reached_at-at_head.result ≡ reached_of track start.args.head
+  head_is = c.reached_at-at_head.ensures
 
-  rear_is : c.reached-at2.result ≡ reached_of track (start.args.head - start.args.length)
-  rear_is = c.reached-at2.ensures ∙ ap (reached_of track) c.before.rear-of.ensures
+  rear_is : c.reached_at-at_rear.result ≡ reached_of track (start.args.head - start.args.length)
+  rear_is = c.reached_at-at_rear.ensures ∙ ap (reached_of track) c.rear_of-rear.ensures
 
-averages-requires : tie.Need-averages-requires
+averages-requires : tie.Need-averages-under-requires
 averages-requires c κs =
     let r = c.before.before in
     let a = (start r).args in
@@ -61,7 +61,7 @@ returns : tie.Need-returns
 returns c =
     let r = c.before.before.before in
     let a = (start r).args in
-    together (track r) (start r).requires.0 a.head a.length (omega arith) _ _ _ (rear_is r) (head_is r) c.averages.ensures
+    together (track r) (start r).requires.0 a.head a.length (omega arith) _ _ _ (rear_is r) (head_is r) c.averages-under.ensures
 
 pub under_train_spec : {M : Type 1} → statement M
 under_train_spec = tie.close (tie.spec (λ c κs. search rules) (λ c κs. search rules) (λ c κs. search rules) averages-requires returns)

@@ -8,11 +8,11 @@ use Rattle.trend.proofs.bottom.Statement.{statement}
 use Rattle.trend.proofs.bottom.Tie as tie
 
 determinant-requires : tie.Need-determinant-requires
-determinant-requires c κs = omega (arith, bottom_room c.before.before.before.before.requires)
+determinant-requires c κs = omega (arith, bottom_room c.requires)
 
 returns : tie.Need-returns
 unfolding bottom
-returns c = (told (sfits_of c.determinant.type-inv) c.determinant.ensures).reads
+returns c = (told (sfits_of c.determinant.type_inv) c.determinant.ensures).reads
 
 pub bottom_spec : {M : Type 1} → statement M
 bottom_spec =

@@ -21,7 +21,7 @@ module _ (c : tie.Start) where
   apart : SFits w64 (pos (c.args.a * c.args.b) -ℤ pos (c.args.c * c.args.d))
   apart = fits_abs (omega (arith, apart_most c.requires))
 
-sub-result : tie.Need-overflow-sub-result
+sub-result : tie.Need-overflow_sub-result
 sub-result c = op_fits ◌-ℤ◌ (first c) (second c) (apart c)
 
 returns : tie.Need-returns

@@ -15,36 +15,36 @@ use borrow.Author.Rules.{rules, sfits_of}
 use Rattle.trend.proofs.dividend.Statement.{statement}
 use Rattle.trend.proofs.dividend.Tie as tie
 
-module _ (c : tie.After-bottom) where
+module _ (c : tie.After-bottom-z) where
   abbrev start : tie.Start
   start = c.before.before
 
   word : start.args.equalization ≤ 65535
   word = omega arith
 
-  intercept_holds : Holds w64 (of_z w64 c.before.intercept-top.result) (intercept_top start.args.s)
-  intercept_holds = told (sfits_of c.before.intercept-top.type-inv) c.before.intercept-top.ensures
+  intercept_holds : Holds w64 (of_z w64 c.intercept_top-b.result) (intercept_top start.args.s)
+  intercept_holds = told (sfits_of c.intercept_top-b.type_inv) c.intercept_top-b.ensures
 
-  bottom_holds : Holds w64 (of_z w64 c.bottom.result) (bottom start.args.s)
-  bottom_holds = told (sfits_of c.bottom.type-inv) c.bottom.ensures
+  bottom_holds : Holds w64 (of_z w64 c.bottom-z.result) (bottom start.args.s)
+  bottom_holds = told (sfits_of c.bottom-z.type_inv) c.bottom-z.ensures
 
   within : start.args.equalization * nat_abs (bottom start.args.s) < 2 ^ 63
-  within = omega (arith, mul-le-mul word (bottom_most start.pre))
+  within = omega (arith, mul-le-mul word (bottom_most start.requires))
 
   abbrev level : ℤ
   level = pos start.args.equalization *ℤ bottom start.args.s
 
-  level_holds : Holds w64 (of_z w64 (to_z w64 start.args.equalization *ℤ to_z w64 (of_z w64 c.bottom.result))) level
+  level_holds : Holds w64 (of_z w64 (to_z w64 start.args.equalization *ℤ to_z w64 (of_z w64 c.bottom-z.result))) level
   level_holds = times_holds start.args.equalization bottom_holds (omega arith) within
 
   dividend_fits : SFits w64 (intercept_top start.args.s -ℤ level)
   unfolding dividend
-  dividend_fits = fits_abs (omega (arith, dividend_most start.pre word))
+  dividend_fits = fits_abs (omega (arith, dividend_most start.requires word))
 
-mul-result : tie.Need-overflow-mul-result
+mul-result : tie.Need-overflow_mul-result
 mul-result c = times_fits (start c).args.equalization (bottom_holds c) (omega arith) (within c)
 
-sub-result : tie.Need-overflow-sub-result
+sub-result : tie.Need-overflow_sub-result
 sub-result c = op_fits ◌-ℤ◌ (intercept_holds c) (level_holds c) (dividend_fits c)
 
 returns : tie.Need-returns

@@ -16,58 +16,58 @@ use borrow.Author.Rules.{rules, sfits_of}
 use Rattle.trend.proofs.divisor.Statement.{statement}
 use Rattle.trend.proofs.divisor.Tie as tie
 
-module _ (c : tie.After-bottom) where
+module _ (c : tie.After-bottom-z) where
   abbrev start : tie.Start
   start = c.before.before
 
   abbrev s : Sums
   s = start.args.s
 
-  bottom_holds : Holds w64 (of_z w64 c.bottom.result) (bottom s)
-  bottom_holds = told (sfits_of c.bottom.type-inv) c.bottom.ensures
+  bottom_holds : Holds w64 (of_z w64 c.bottom-z.result) (bottom s)
+  bottom_holds = told (sfits_of c.bottom-z.type_inv) c.bottom-z.ensures
 
-  slope_holds : Holds w64 (of_z w64 c.before.slope-top.result) (slope_top s)
-  slope_holds = told (sfits_of c.before.slope-top.type-inv) c.before.slope-top.ensures
+  slope_holds : Holds w64 (of_z w64 c.slope_top-m.result) (slope_top s)
+  slope_holds = told (sfits_of c.slope_top-m.type_inv) c.slope_top-m.ensures
 
   -- 933 Z, 110 M, 100 M
-  bottom_933 : Holds w64 (of_z w64 (pos 933 *ℤ to_z w64 (of_z w64 c.bottom.result))) (pos 933 *ℤ bottom s)
-  bottom_933 = times_holds 933 bottom_holds (omega arith) (omega (arith, bottom_most start.pre))
+  bottom_933 : Holds w64 (of_z w64 (pos 933 *ℤ to_z w64 (of_z w64 c.bottom-z.result))) (pos 933 *ℤ bottom s)
+  bottom_933 = times_holds 933 bottom_holds (omega arith) (omega (arith, bottom_most start.requires))
 
-  slope_110 : Holds w64 (of_z w64 (pos 110 *ℤ to_z w64 (of_z w64 c.before.slope-top.result))) (pos 110 *ℤ slope_top s)
-  slope_110 = times_holds 110 slope_holds (omega arith) (omega (arith, slope_most start.pre))
+  slope_110 : Holds w64 (of_z w64 (pos 110 *ℤ to_z w64 (of_z w64 c.slope_top-m.result))) (pos 110 *ℤ slope_top s)
+  slope_110 = times_holds 110 slope_holds (omega arith) (omega (arith, slope_most start.requires))
 
-  slope_100 : Holds w64 (of_z w64 (pos 100 *ℤ to_z w64 (of_z w64 c.before.slope-top.result))) (pos 100 *ℤ slope_top s)
-  slope_100 = times_holds 100 slope_holds (omega arith) (omega (arith, slope_most start.pre))
+  slope_100 : Holds w64 (of_z w64 (pos 100 *ℤ to_z w64 (of_z w64 c.slope_top-m.result))) (pos 100 *ℤ slope_top s)
+  slope_100 = times_holds 100 slope_holds (omega arith) (omega (arith, slope_most start.requires))
 
   steeper_fits : SFits w64 (pos 933 *ℤ bottom s -ℤ pos 110 *ℤ slope_top s)
-  steeper_fits = fits_abs (omega (arith, steeper_most start.pre))
+  steeper_fits = fits_abs (omega (arith, steeper_most start.requires))
 
   level_fits : nat_abs (pos 100 *ℤ slope_top s) < 2 ^ 63
-  level_fits = omega (arith, abs_times 100 (slope_top s), slope_most start.pre)
+  level_fits = omega (arith, abs_times 100 (slope_top s), slope_most start.requires)
 
-mul-result : tie.Need-overflow-mul-result
-mul-result c = times_fits 933 (bottom_holds c.before) (omega arith) (omega (arith, bottom_most (start c.before).pre))
+mul-result : tie.Need-overflow_mul-result
+mul-result c = times_fits 933 (bottom_holds c.before) (omega arith) (omega (arith, bottom_most (start c.before).requires))
 
-mul-result-2 : tie.Need-overflow-mul-result-2
-mul-result-2 c = times_fits 110 (slope_holds c.before) (omega arith) (omega (arith, slope_most (start c.before).pre))
+mul-result-2 : tie.Need-overflow_mul-result-then-equalization-p
+mul-result-2 c = times_fits 110 (slope_holds c.before) (omega arith) (omega (arith, slope_most (start c.before).requires))
 
-sub-result : tie.Need-overflow-sub-result
+sub-result : tie.Need-overflow_sub-result
 sub-result c = op_fits ◌-ℤ◌ (bottom_933 c.before) (slope_110 c.before) (steeper_fits c.before)
 
-mul-result-3 : tie.Need-overflow-mul-result-3
-mul-result-3 c = times_fits 100 (slope_holds c.before) (omega arith) (omega (arith, slope_most (start c.before).pre))
+mul-result-3 : tie.Need-overflow_mul-result-else-equalization-p
+mul-result-3 c = times_fits 100 (slope_holds c.before) (omega arith) (omega (arith, slope_most (start c.before).requires))
 
-sub-result-2 : tie.Need-overflow-sub-result-2
+sub-result-2 : tie.Need-overflow_sub-result-else-equalization-p
 sub-result-2 c = neg_fits (slope_100 c.before) (level_fits c.before)
 
-returns : tie.Need-returns
+returns : tie.Need-returns-then-equalization-p
 unfolding divisor
 returns c =
     let a = (start c.before).args in
     rw (le-leb a.equalization a.p (omega arith))
     (op_holds ◌-ℤ◌ (bottom_933 c.before) (slope_110 c.before) (steeper_fits c.before)).reads
 
-returns-2 : tie.Need-returns-2
+returns-2 : tie.Need-returns-else-equalization-p
 unfolding divisor
 returns-2 c =
     let a = (start c.before).args in

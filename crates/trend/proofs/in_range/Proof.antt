@@ -19,25 +19,25 @@ cut_fits {z = negsuc n} f = omega arith
 ms_holds : (c : tie.Start) → Holds w64 (of_z w64 c.args.ms) c.args.ms
 ms_holds c = fit_holds c.ranges.ms
 
-least : (c : tie.Else1) → AtMost (pos 1000) c.before.args.ms
-least c = lt_z-false c.before.args.ms (pos 1000) (rw (ms_holds c.before).reads at c.if1.false)
+least : (c : tie.Else-ms-lt1000) → AtMost (pos 1000) c.args.ms
+least c = lt_z-false c.args.ms (pos 1000) (rw (ms_holds c.before).reads at c.if-ms-lt1000.false)
 
-some : (c : tie.Else1) → AtMost (pos 0) c.before.args.ms
+some : (c : tie.Else-ms-lt1000) → AtMost (pos 0) c.args.ms
 some c = omega (arith, least c)
 
-returns : tie.Need-returns
+returns : tie.Need-returns-then-ms-lt1000
 returns c =
-    let ms = c.before.args.ms in
-    let less = lt_z-true ms (pos 1000) (rw (ms_holds c.before).reads at c.if1.true) in
+    let ms = c.args.ms in
+    let less = lt_z-true ms (pos 1000) (rw (ms_holds c.before).reads at c.if-ms-lt1000.true) in
     omega (arith, up_mono ms (pos 1000) (omega (arith, less)))
 
-cast-lesser : tie.Need-overflow-cast-lesser
-cast-lesser c = unsigned_fits (ms_holds c.before) (some c) (omega (arith, cut_fits c.before.ranges.ms))
+cast-lesser : tie.Need-overflow_cast-ms
+cast-lesser c = unsigned_fits (ms_holds c.before) (some c) (omega (arith, cut_fits c.ranges.ms))
 
-cast-result : tie.Need-overflow-cast-result
+cast-result : tie.Need-overflow_cast-result
 cast-result c = omega (arith, c.lesser.ensures)
 
-returns-2 : tie.Need-returns-2
+returns-2 : tie.Need-returns
 returns-2 c = omega (arith, least c.before, c.lesser.ensures, unsigned_is (ms_holds c.before.before) (some c.before))
 
 pub in_range_spec : {M : Type 1} → statement M

@@ -8,11 +8,11 @@ use Rattle.trend.proofs.intercept_top.Statement.{statement}
 use Rattle.trend.proofs.intercept_top.Tie as tie
 
 determinant-requires : tie.Need-determinant-requires
-determinant-requires c κs = omega (arith, intercept_room c.before.before.before.before.requires)
+determinant-requires c κs = omega (arith, intercept_room c.requires)
 
 returns : tie.Need-returns
 unfolding intercept_top
-returns c = (told (sfits_of c.determinant.type-inv) c.determinant.ensures).reads
+returns c = (told (sfits_of c.determinant.type_inv) c.determinant.ensures).reads
 
 pub intercept_top_spec : {M : Type 1} → statement M
 intercept_top_spec =

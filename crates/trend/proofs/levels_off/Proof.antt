@@ -15,7 +15,7 @@ use borrow.Author.Rules.{rules, sfits_of}
 use Rattle.trend.proofs.levels_off.Statement.{statement}
 use Rattle.trend.proofs.levels_off.Tie as tie
 
-module _ (c : tie.After-bottom) where
+module _ (c : tie.After-bottom-z) where
   abbrev start : tie.Start
   start = c.before.before
 
@@ -37,34 +37,34 @@ module _ (c : tie.After-bottom) where
   twice_holds : Holds w64 (of_z w64 (pos 2 *ℤ to_z w64 fall)) (pos (2 * fall))
   twice_holds = times_holds 2 fall_holds (omega arith) (omega arith)
 
-  bottom_holds : Holds w64 (of_z w64 c.bottom.result) (bottom s)
-  bottom_holds = told (sfits_of c.bottom.type-inv) c.bottom.ensures
+  bottom_holds : Holds w64 (of_z w64 c.bottom-z.result) (bottom s)
+  bottom_holds = told (sfits_of c.bottom-z.type_inv) c.bottom-z.ensures
 
-  slope_holds : Holds w64 (of_z w64 c.before.slope-top.result) (slope_top s)
-  slope_holds = told (sfits_of c.before.slope-top.type-inv) c.before.slope-top.ensures
+  slope_holds : Holds w64 (of_z w64 c.slope_top-m.result) (slope_top s)
+  slope_holds = told (sfits_of c.slope_top-m.type_inv) c.slope_top-m.ensures
 
   slope_fits : nat_abs (slope_top s) < 2 ^ 63
-  slope_fits = omega (arith, slope_most start.pre)
+  slope_fits = omega (arith, slope_most start.requires)
 
   last_fits : SFits w64 (pos (2 * fall) *ℤ bottom s)
-  last_fits = fits_abs (omega (arith, abs_times (2 * fall) (bottom s), mul-le-mul twice_most (bottom_most start.pre)))
+  last_fits = fits_abs (omega (arith, abs_times (2 * fall) (bottom s), mul-le-mul twice_most (bottom_most start.requires)))
 
   seconds_most : seconds ≤ 65535
   seconds_most = omega arith
 
   line_fits : seconds * nat_abs (neg_ℤ (slope_top s)) < 2 ^ 63
-  line_fits = rw (abs_neg (slope_top s)) (omega (arith, mul-le-mul seconds_most (slope_most start.pre)))
+  line_fits = rw (abs_neg (slope_top s)) (omega (arith, mul-le-mul seconds_most (slope_most start.requires)))
 
-mul-result : tie.Need-overflow-mul-result
+mul-result : tie.Need-overflow_mul-result
 mul-result c = times_fits 2 (fall_holds c) (omega arith) (omega (arith, twice_most c))
 
-mul-result-2 : tie.Need-overflow-mul-result-2
+mul-result-2 : tie.Need-overflow_mul-result-2
 mul-result-2 c = op_fits ◌*ℤ◌ (twice_holds c) (bottom_holds c) (last_fits c)
 
-sub-result : tie.Need-overflow-sub-result
+sub-result : tie.Need-overflow_sub-result
 sub-result c = neg_fits (slope_holds c) (slope_fits c)
 
-mul-result-3 : tie.Need-overflow-mul-result-3
+mul-result-3 : tie.Need-overflow_mul-result-3
 mul-result-3 c = times_fits (seconds c) (neg_holds (slope_holds c) (slope_fits c)) (omega arith) (line_fits c)
 
 returns : tie.Need-returns

@@ -16,7 +16,7 @@ use borrow.Author.Rules.{rules, sfits_of}
 use Rattle.trend.proofs.result.Statement.{statement}
 use Rattle.trend.proofs.result.Tie as tie
 
-module _ (c : tie.After-divisor) where
+module _ (c : tie.After-divisor-y) where
   abbrev start : tie.Start
   start = c.before.before
 
@@ -26,36 +26,36 @@ module _ (c : tie.After-divisor) where
   abbrev y : ℤ
   y = divisor start.args.equalization start.args.p start.args.s
 
-  x_holds : Holds w64 (of_z w64 c.before.dividend.result) x
-  x_holds = told (sfits_of c.before.dividend.type-inv) c.before.dividend.ensures
+  x_holds : Holds w64 (of_z w64 c.dividend-x.result) x
+  x_holds = told (sfits_of c.dividend-x.type_inv) c.dividend-x.ensures
 
-  y_holds : Holds w64 (of_z w64 c.divisor.result) y
-  y_holds = told (sfits_of c.divisor.type-inv) c.divisor.ensures
+  y_holds : Holds w64 (of_z w64 c.divisor-y.result) y
+  y_holds = told (sfits_of c.divisor-y.type_inv) c.divisor-y.ensures
 
-  tested : {b : Bool} → lt_z (pos 0) (to_z w64 (of_z w64 c.divisor.result)) ≡ b → lt_z (pos 0) y ≡ b
+  tested : {b : Bool} → lt_z (pos 0) (to_z w64 (of_z w64 c.divisor-y.result)) ≡ b → lt_z (pos 0) y ≡ b
   tested e = rw y_holds.reads at e
 
   fraction : lt_z (pos 0) y ≡ true → Fraction x y
   fraction e = record {
-    dividend = dividend_most start.pre.0 (omega arith);
+    dividend = dividend_most start.requires.0 (omega arith);
     above = parts_lt (pos 0) y (lt_z-true (pos 0) y e);
-    divisor = divisor_most start.pre.0 start.args.equalization start.args.p;
+    divisor = divisor_most start.requires.0 start.args.equalization start.args.p;
   }
 
 time-requires : tie.Need-time-requires
 time-requires c κs =
     let d = c.before in
-    rw ((x_holds d).reads, (y_holds d).reads) ((start d).requires.1, fraction d (tested d {b = true} c.if1.true))
+    rw ((x_holds d).reads, (y_holds d).reads) ((start d).requires.1, fraction d (tested d {b = true} c.if-y-gt0.true))
 
-returns : tie.Need-returns
+returns : tie.Need-returns-then-y-gt0
 unfolding result_of
 returns c =
     let d = c.before.before in
-    rw (tested d c.before.if1.true, c.time.ensures, (x_holds d).reads, (y_holds d).reads)
+    rw (tested d c.if-y-gt0.true, c.time.ensures, (x_holds d).reads, (y_holds d).reads)
 
-returns-2 : tie.Need-returns-2
+returns-2 : tie.Need-returns-else-y-gt0
 unfolding result_of
-returns-2 c = rw (tested c.before c.if1.false)
+returns-2 c = rw (tested c.before c.if-y-gt0.false)
 
 pub result_spec : {M : Type 1} → statement M
 result_spec =

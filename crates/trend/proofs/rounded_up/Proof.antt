@@ -75,47 +75,47 @@ module _ (c : tie.Start) where
   divisor_most : cut y ≤ 100000000000000
   divisor_most = omega (arith, abs_parts y, c.requires.fraction.divisor)
 
-mul-rest : tie.Need-overflow-mul-rest
+mul-rest : tie.Need-overflow_mul-rest
 mul-rest c = times_fits 100 (x_holds c) (omega arith) (hundred c)
 
-mul-rest-2 : tie.Need-overflow-mul-rest-2
+mul-rest-2 : tie.Need-overflow_mul-rest-2
 mul-rest-2 c = op_fits ◌*ℤ◌ (y_holds c) (q_holds c) (product_fits c)
 
-sub-rest : tie.Need-overflow-sub-rest
+sub-rest : tie.Need-overflow_sub-rest
 sub-rest c = op_fits ◌-ℤ◌ (hundred_holds c) (product_holds c) (rest_fits c)
 
-cast-ceil-div : tie.Need-overflow-cast-ceil-div
+cast-ceil-div : tie.Need-overflow_cast-rest
 cast-ceil-div c = unsigned_fits (rest_holds c) (by c).some (omega (arith, (by c).less, divisor_most c))
 
-mul-ceil-div : tie.Need-overflow-mul-ceil-div
+mul-ceil-div : tie.Need-overflow_mul-rest-3
 mul-ceil-div c = omega (arith, rest_is c, (by c).less, divisor_most c)
 
-cast-ceil-div-2 : tie.Need-overflow-cast-ceil-div-2
+cast-ceil-div-2 : tie.Need-overflow_cast-y
 cast-ceil-div-2 c = unsigned_fits (y_holds c) (divisor_some c) (omega (arith, divisor_most c))
 
-module _ (c : tie.After-ceil-div) where
-  up_is : c.ceil-div.result ≡ thousandths (x c.before) (y c.before) (q c.before)
-  up_is = c.ceil-div.ensures ∙ rw (rest_is c.before, divisor_is c.before)
+module _ (c : tie.After-ceil_div-up) where
+  up_is : c.ceil_div-up.result ≡ thousandths (x c.before) (y c.before) (q c.before)
+  up_is = c.ceil_div-up.ensures ∙ rw (rest_is c.before, divisor_is c.before)
 
-  up_most : c.ceil-div.result ≤ 1000
+  up_most : c.ceil_div-up.result ≤ 1000
   up_most = rw up_is (by c.before).most
 
-  up_holds : Holds w64 c.ceil-div.result (pos (thousandths (x c.before) (y c.before) (q c.before)))
+  up_holds : Holds w64 c.ceil_div-up.result (pos (thousandths (x c.before) (y c.before) (q c.before)))
   up_holds = rw up_is (nat_holds (omega (arith, (by c.before).most)))
 
   quotient_holds : Holds w64 (of_z w64 (pos 1000 *ℤ to_z w64 (of_z w64 (q c.before)))) (pos 1000 *ℤ q c.before)
-  quotient_holds = times_holds 1000 (q_holds c.before) (omega arith) (omega (arith, c.before.requires.within))
+  quotient_holds = times_holds 1000 (q_holds c.before) (omega arith) (omega (arith, c.requires.within))
 
   sum_fits : SFits w64 (pos 1000 *ℤ q c.before +ℤ pos (thousandths (x c.before) (y c.before) (q c.before)))
-  sum_fits = rw (by c.before).up (fits_abs (omega (arith, rounded_most (by c.before) c.before.requires.within)))
+  sum_fits = rw (by c.before).up (fits_abs (omega (arith, rounded_most (by c.before) c.requires.within)))
 
-mul-result : tie.Need-overflow-mul-result
-mul-result c = times_fits 1000 (q_holds c.before) (omega arith) (omega (arith, c.before.requires.within))
+mul-result : tie.Need-overflow_mul-result
+mul-result c = times_fits 1000 (q_holds c.before) (omega arith) (omega (arith, c.requires.within))
 
-cast-result : tie.Need-overflow-cast-result
+cast-result : tie.Need-overflow_cast-result
 cast-result c = fits_abs (omega (arith, up_most c))
 
-add-result : tie.Need-overflow-add-result
+add-result : tie.Need-overflow_add-result
 add-result c = op_fits ◌+ℤ◌ (quotient_holds c) (up_holds c) (sum_fits c)
 
 returns : tie.Need-returns

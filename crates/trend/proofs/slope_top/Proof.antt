@@ -8,11 +8,11 @@ use Rattle.trend.proofs.slope_top.Statement.{statement}
 use Rattle.trend.proofs.slope_top.Tie as tie
 
 determinant-requires : tie.Need-determinant-requires
-determinant-requires c κs = omega (arith, slope_room c.before.before.before.before.requires)
+determinant-requires c κs = omega (arith, slope_room c.requires)
 
 returns : tie.Need-returns
 unfolding slope_top
-returns c = (told (sfits_of c.determinant.type-inv) c.determinant.ensures).reads
+returns c = (told (sfits_of c.determinant.type_inv) c.determinant.ensures).reads
 
 pub slope_top_spec : {M : Type 1} → statement M
 slope_top_spec =

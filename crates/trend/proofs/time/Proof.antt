@@ -29,82 +29,82 @@ module _ (c : tie.Start) where
   hundred_holds : Holds w64 (of_z w64 (pos 100 *ℤ to_z w64 (of_z w64 c.args.x))) (pos 100 *ℤ c.args.x)
   hundred_holds = times_holds 100 x_holds (omega arith) hundred
 
-mul-floor-div : tie.Need-overflow-mul-floor-div
+mul-floor-div : tie.Need-overflow_mul-x
 mul-floor-div c = times_fits 100 (x_holds c) (omega arith) (hundred c)
 
-module _ (c : tie.After-floor-div) where
+module _ (c : tie.After-floor_div-quotient) where
   abbrev x : ℤ
-  x = c.before.args.x
+  x = c.args.x
 
   abbrev y : ℤ
-  y = c.before.args.y
+  y = c.args.y
 
   abbrev q : ℤ
-  q = c.floor-div.result
+  q = c.floor_div-quotient.result
 
   q_holds : Holds w64 (of_z w64 q) q
-  q_holds = fit_holds (sfits_of c.floor-div.type-inv)
+  q_holds = fit_holds (sfits_of c.floor_div-quotient.type_inv)
 
   q_is : q ≡ floor_div (pos 100 *ℤ x) y
-  q_is = c.floor-div.ensures ∙ rw ((hundred_holds c.before).reads, (y_holds c.before).reads)
+  q_is = c.floor_div-quotient.ensures ∙ rw ((hundred_holds c.before).reads, (y_holds c.before).reads)
 
   by : Divided x y q
-  by = divided x y q c.before.requires.1.above q_is
+  by = divided x y q c.requires.1.above q_is
 
-returns : tie.Need-returns
+returns : tie.Need-returns-then-quotient-ge240
 returns c =
     let f = c.before in
-    far_above (by f) f.before.args.init (le_z-true (pos 240) (q f) (rw (q_holds f).reads at c.if1.true))
+    far_above (by f) f.args.init (le_z-true (pos 240) (q f) (rw (q_holds f).reads at c.if-quotient-ge240.true))
 
-returns-2 : tie.Need-returns-2
+returns-2 : tie.Need-returns-then-quotient-ltminus1000
 returns-2 c =
     let f = c.before.before in
-    far_below (by f) f.before.args.init f.before.requires.0 (lt_z-true (q f) (negsuc 999) (rw (q_holds f).reads at c.if2.true))
+    far_below (by f) f.args.init f.requires.0 (lt_z-true (q f) (negsuc 999) (rw (q_holds f).reads at c.if-quotient-ltminus1000.true))
 
-near : (c : tie.Else2) → nat_abs (q c.before.before) ≤ 1000
+near : (c : tie.Else-quotient-ltminus1000) → nat_abs (q c.before.before) ≤ 1000
 near c =
     let f = c.before.before in
-    let most = le_z-false (pos 240) (q f) (rw (q_holds f).reads at c.before.if1.false) in
-    let least = lt_z-false (q f) (negsuc 999) (rw (q_holds f).reads at c.if2.false) in
+    let most = le_z-false (pos 240) (q f) (rw (q_holds f).reads at c.if-quotient-ge240.false) in
+    let least = lt_z-false (q f) (negsuc 999) (rw (q_holds f).reads at c.if-quotient-ltminus1000.false) in
     abs_most (q f) 1000 (omega arith) (omega arith)
 
-rounded-up-requires : tie.Need-rounded-up-requires
+rounded-up-requires : tie.Need-rounded_up-requires
 rounded-up-requires c κs =
     let f = c.before.before in
     rw ((x_holds f.before).reads, (y_holds f.before).reads, (q_holds f).reads)
-    record { fraction = f.before.requires.1; down = q_is f; within = near c }
+    record { fraction = f.requires.1; down = q_is f; within = near c }
 
-module _ (c : tie.After-rounded-up) where
-  abbrev divided_by : tie.After-floor-div
+module _ (c : tie.After-rounded_up) where
+  abbrev divided_by : tie.After-floor_div-quotient
   divided_by = c.before.before.before
 
   abbrev late : ℕ
-  late = 1000 * (divided_by.before.args.init + 1)
+  late = 1000 * (divided_by.args.init + 1)
 
   abbrev rounded : ℤ
   rounded = rounded_up (pos 100000 *ℤ x divided_by) (y divided_by)
 
-  rounded_holds : Holds w64 (of_z w64 c.rounded-up.result) rounded
+  rounded_holds : Holds w64 (of_z w64 c.rounded_up.result) rounded
   rounded_holds =
-      told (sfits_of c.rounded-up.type-inv)
-      (rw ((x_holds divided_by.before).reads, (y_holds divided_by.before).reads) at c.rounded-up.ensures)
+      told (sfits_of c.rounded_up.type_inv)
+      (rw ((x_holds divided_by.before).reads, (y_holds divided_by.before).reads) at c.rounded_up.ensures)
 
   late_holds : Holds w64 late (pos late)
-  late_holds = nat_holds (omega (arith, divided_by.before.pre.0))
+  late_holds = nat_holds (omega (arith, divided_by.requires.0))
 
   ms_fits : SFits w64 (pos late +ℤ rounded)
   ms_fits =
       fits_abs
-      (omega (arith, divided_by.before.pre.0, abs_add (pos late) rounded, rounded_most (by divided_by) (near c.before)))
+      (omega (arith, divided_by.requires.0, abs_add (pos late) rounded, rounded_most (by divided_by) (near c.before)))
 
-add-in-range-2 : tie.Need-overflow-add-in-range-2
+add-in-range-2 : tie.Need-overflow_add-init-2
 add-in-range-2 c = op_fits ◌+ℤ◌ (late_holds c) (rounded_holds c) (ms_fits c)
 
-returns-3 : tie.Need-returns-3
+returns-3 : tie.Need-returns
 unfolding time_of
 returns-3 c =
     let r = c.before in
-    c.in-range.ensures ∙ ap (λ (z : ℤ). in_range z) (op_holds ◌+ℤ◌ (late_holds r) (rounded_holds r) (ms_fits r)).reads
+    c.in_range.ensures ∙ ap (λ (z : ℤ). in_range z) (op_holds ◌+ℤ◌ (late_holds r) (rounded_holds r) (ms_fits r)).reads
 
 pub time_spec : {M : Type 1} → statement M
 time_spec =

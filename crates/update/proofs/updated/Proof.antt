@@ -15,8 +15,8 @@ use Rattle.update.proofs.Sound.{air_sound}
 use Rattle.update.proofs.updated.Statement.{statement}
 use Rattle.update.proofs.updated.Tie as tie
 
-ruled-requires : tie.Need-ruled-requires
-ruled-requires c κs = let start = c.before.before in rw c.of.ensures (start.requires.consist, air_sound _ _ start.requires.brake)
+ruled-requires : tie.Need-ruled-next-requires
+ruled-requires c κs = let start = c.before.before in rw c.of-held.ensures (start.requires.consist, air_sound _ _ start.requires.brake)
 
 -- from the reading, the air that is held and what a rule makes of it, by the calls
 together : (c : Consist) (k : Brake) (time front : ℕ) (rear : RearPressure) (r : Reading) (held next : Air) (heard : Heard)
@@ -30,9 +30,9 @@ returns c =
     let ruled = c.before in
     let own = ruled.before in
     let read = own.before in
-    let a = read.before.args in
-    together a.c a.k a.time a.front a.rear read.of-sample.result own.of.result ruled.ruled.result c.heard.result
-    read.of-sample.ensures own.of.ensures ruled.ruled.ensures c.heard.ensures
+    let a = read.args in
+    together a.c a.k a.time a.front a.rear read.of_sample-r.result own.of-held.result ruled.ruled-next.result c.heard-heard.result
+    read.of_sample-r.ensures own.of-held.ensures ruled.ruled-next.ensures c.heard-heard.ensures
 
 pub updated_spec : {M : Type 1} → statement M
 updated_spec = tie.close (tie.spec (λ c κs. search rules) (λ c κs. search rules) ruled-requires (λ c κs. search rules) returns)

@@ -18,11 +18,11 @@ module _ (r : Run) (arrivals : List ℕ) where
   cut : (r.q ≡ 0 → ⊥) → prediction_with no_stop (replicate most no_stop) ≡ ended_with r arrivals
   cut h = rw (ne_eqb r.q 0 h)
 
-returns : tie.Need-returns
-returns c = let a = c.before.before.args in at_rest a.run a.arrivals c.if1.true
+returns : tie.Need-returns-then-run-eq0
+returns c = let a = c.args in at_rest a.run a.arrivals c.if-run-eq0.true
 
-returns-2 : tie.Need-returns-2
-returns-2 c = let a = c.before.before.args in cut a.run a.arrivals c.if1.false
+returns-2 : tie.Need-returns
+returns-2 c = let a = c.args in cut a.run a.arrivals c.if-run-eq0.false
 
 pub ended_spec : {M : Type 1} → statement M
 ended_spec = tie.close (tie.spec returns returns-2)

@@ -26,23 +26,23 @@ module _ (r : Run) (u arrival : ℕ) where
 square-requires : tie.Need-square-requires
 square-requires c κs = search rules
 
-returns : tie.Need-returns
+returns : tie.Need-returns-then-run-square
 returns c =
     let b = c.before.before in
-    let a = b.before.args in
-    opens a.run a.speed a.arrival (omega (arith, b.square.ensures, c.if1.true))
+    let a = b.args in
+    opens a.run a.speed a.arrival (omega (arith, b.square.ensures, c.if-run-square.true))
 
-returns-2 : tie.Need-returns-2
+returns-2 : tie.Need-returns-then-arrival-eq-NO_STOP
 returns-2 c =
     let b = c.before.before.before in
-    let a = b.before.args in
-    closes a.run a.speed a.arrival (omega (arith, b.square.ensures, c.before.if1.false)) c.if2.true
+    let a = b.args in
+    closes a.run a.speed a.arrival (omega (arith, b.square.ensures, c.if-run-square.false)) c.if-arrival-eq-NO_STOP.true
 
-returns-3 : tie.Need-returns-3
+returns-3 : tie.Need-returns
 returns-3 c =
     let b = c.before.before.before in
-    let a = b.before.args in
-    stays_closed a.run a.speed a.arrival (omega (arith, b.square.ensures, c.before.if1.false)) c.if2.false
+    let a = b.args in
+    stays_closed a.run a.speed a.arrival (omega (arith, b.square.ensures, c.if-run-square.false)) c.if-arrival-eq-NO_STOP.false
 
 pub mark_spec : {M : Type 1} → statement M
 mark_spec = tie.close (tie.spec square-requires returns returns-2 returns-3)

@@ -29,50 +29,50 @@ further run speeds before i v arrivals h u e =
       left = λ k l. get_or-set_other arrivals i k v 0 (λ z. omega arith) ∙ u.left k (omega arith);
     }
 
-abbrev invariant-loop : tie.invariant-loop
+abbrev invariant-loop : tie.invariant-loop-i
 invariant-loop run speeds places₀ i₀ arrivals i = (i ≤ most) × Until run speeds places₀ i arrivals
 
-abbrev decreases-loop : tie.decreases-loop
+abbrev decreases-loop : tie.decreases-loop-i
 decreases-loop run speeds places₀ i₀ arrivals i = most - i
 
-loop_holds : tie.Need-loop-init invariant-loop decreases-loop
+loop_holds : tie.Need-loop-i-init invariant-loop decreases-loop
 loop_holds c = (omega arith, record { size = omega arith; done = λ k h. absurd (omega arith); left = λ k h. refl })
 
-mul-mark : tie.Need-overflow-mul-mark invariant-loop decreases-loop
+mul-mark : tie.Need-offset_bounds-arrivals-i invariant-loop decreases-loop
 mul-mark c = omega arith
 
-array-read-mark : tie.Need-array-read-mark invariant-loop decreases-loop
+array-read-mark : tie.Need-bounds-arrivals-i invariant-loop decreases-loop
 array-read-mark c = omega arith
 
-mul-mark-2 : tie.Need-overflow-mul-mark-2 invariant-loop decreases-loop
+mul-mark-2 : tie.Need-offset_bounds-speeds-i invariant-loop decreases-loop
 mul-mark-2 c = omega arith
 
-array-read-mark-2 : tie.Need-array-read-mark-2 invariant-loop decreases-loop
+array-read-mark-2 : tie.Need-bounds-speeds-i invariant-loop decreases-loop
 array-read-mark-2 c = omega arith
 
 mark-requires : tie.Need-mark-requires invariant-loop decreases-loop
 mark-requires c κs = tt
 
-mul-arrivals : tie.Need-overflow-mul-arrivals invariant-loop decreases-loop
+mul-arrivals : tie.Need-offset_bounds-arrivals-i-in-loop-i invariant-loop decreases-loop
 mul-arrivals c = omega arith
 
-array-write-arrivals : tie.Need-array-write-arrivals invariant-loop decreases-loop
+array-write-arrivals : tie.Need-bounds-arrivals-i-in-loop-i invariant-loop decreases-loop
 array-write-arrivals c = omega arith
 
-add-i : tie.Need-overflow-add-i invariant-loop decreases-loop
+add-i : tie.Need-overflow_add-i invariant-loop decreases-loop
 add-i c = omega arith
 
-loop_less : tie.Need-loop-smaller invariant-loop decreases-loop
+loop_less : tie.Need-loop-i-smaller invariant-loop decreases-loop
 loop_less c = omega arith
 
-loop_again : tie.Need-loop-preserved invariant-loop decreases-loop
+loop_again : tie.Need-loop-i-preserved invariant-loop decreases-loop
 loop_again c =
-    let l = c.before.before.loop in
-    (omega arith, further _ _ _ l.i _ l.arrivals c.before.loop-test.true l.invariant.1 c.mark.ensures)
+    let l = c.loop-i in
+    (omega arith, further _ _ _ l.i _ l.arrivals c.loop-i-test.true l.invariant.1 c.mark.ensures)
 
 returns : tie.Need-returns invariant-loop decreases-loop
 returns c =
-    let u = c.before.loop.invariant.1 in
+    let u = c.loop-i.invariant.1 in
     record { size = u.size; each = λ k h. u.done k (omega arith) }
 
 pub marked_spec : {M : Type 1} → statement M

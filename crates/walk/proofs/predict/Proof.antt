@@ -28,13 +28,13 @@ use Rattle.walk.proofs.Arrivals.{Walked, walk_begins, unmarked, answer_ended, wa
 use Rattle.walk.proofs.predict.Statement.{statement}
 use Rattle.walk.proofs.predict.Tie as tie
 
-abbrev invariant-loop : tie.invariant-loop
-invariant-loop c curve count starts grades curvatures grade_totals curvature_totals head speed speeds load blocks lengths weights run₀ arrivals₀ band₀ near₀ n₀ run arrivals band near n =
+abbrev invariant_loop : tie.invariant-loop-band
+invariant_loop c curve count starts grades curvatures grade_totals curvature_totals head speed speeds load blocks lengths weights run₀ arrivals₀ band₀ near₀ n₀ run arrivals band near n =
     Walked c (force_at c.rated curve) (ground_of (track_of count starts grades curvatures) c) head speed speeds n run arrivals
     × Quiet speeds arrivals band
 
-abbrev decreases-loop : tie.decreases-loop
-decreases-loop c curve count starts grades curvatures grade_totals curvature_totals head speed speeds load blocks lengths weights run₀ arrivals₀ band₀ near₀ n₀ run arrivals band near n = steps_most - n
+abbrev decreases_loop : tie.decreases-loop-band
+decreases_loop c curve count starts grades curvatures grade_totals curvature_totals head speed speeds load blocks lengths weights run₀ arrivals₀ band₀ near₀ n₀ run arrivals band near n = steps_most - n
 
 carried : {r : Run} {speeds before arrivals arrivals' : List ℕ} {band band' : Band} → arrivals' ≡ arrivals → band' ≡ band
     → Marked r speeds before arrivals → Quiet speeds arrivals band → Marked r speeds before arrivals' × Quiet speeds arrivals' band'
@@ -49,11 +49,11 @@ in_band b q h = by (ltb b.low q) (leb q b.high) refl refl h
     by false m e f h = absurd (false≢true h)
 
 -- where both arms of the marking meet
-module _ (c : tie.Joined1 invariant-loop decreases-loop) where
-  abbrev here : tie.At-loop invariant-loop decreases-loop
+module _ (c : tie.Joined-not-lies_in invariant_loop decreases_loop) where
+  abbrev here : tie.At-loop-band invariant_loop decreases_loop
   here = c.before.before
 
-  abbrev entry : tie.Start invariant-loop decreases-loop
+  abbrev entry : tie.Start invariant_loop decreases_loop
   entry = here.before.before.before.before.before.before
 
   abbrev track : Track
@@ -62,21 +62,21 @@ module _ (c : tie.Joined1 invariant-loop decreases-loop) where
   abbrev force : ℕ → ℕ
   force = force_at entry.args.c.rated entry.args.curve
 
-  marks : Marked here.loop.run entry.args.speeds here.loop.arrivals c.if1.arrivals × Quiet entry.args.speeds c.if1.arrivals c.if1.band
+  marks : Marked here.loop-band.run entry.args.speeds here.loop-band.arrivals c.if-not-lies_in.arrivals × Quiet entry.args.speeds c.if-not-lies_in.arrivals c.if-not-lies_in.band
   marks =
-      let i = here.loop.inv in
-      ⊎_elim (λ w. carried w.3 w.4 w.1.ensures w.2.ensures)
+      let i = here.loop-band.invariant in
+      ⊎_elim (λ w. carried w.arrivals-is w.band-is w.marked-now.ensures w.quiet_band-band-then-not-lies_in.ensures)
       (λ w.
-      let (low, high) = in_band here.loop.band here.loop.run.q (sym c.before.lies_in.ensures ∙ not-false _ w.0.left) in
-      carried w.1 w.2 (unmarked _ _ _ _ i.0.size i.1 low high) i.1)
-      c.if1.branch
+      let (low, high) = in_band here.loop-band.band here.loop-band.run.q (sym c.lies_in.ensures ∙ w.if-not-lies_in.false) in
+      carried w.arrivals-is w.band-is (unmarked _ _ _ _ i.0.size i.1 low high) i.1)
+      c.if-not-lies_in.branch-raw
 
-  slow : here.loop.run.q ≤ square_most
+  slow : here.loop-band.run.q ≤ square_most
   slow =
-      let i = here.loop.inv.0 in
-      under_bound entry.args.speed here.loop.n here.loop.run.q entry.pre.0.speed i.steps i.square_most
+      let i = here.loop-band.invariant.0 in
+      under_bound entry.args.speed here.loop-band.n here.loop-band.run.q entry.requires.0.speed i.steps i.square_most
 
-eight : (c : tie.Start invariant-loop decreases-loop) → length c.args.speeds ≡ most
+eight : (c : tie.Start invariant_loop decreases_loop) → length c.args.speeds ≡ most
 eight c = omega arith
 
 -- neither test holds
@@ -89,17 +89,17 @@ neither q n h = by (eqb q 0) (eqb n steps_most) refl refl h
     by false false e f h = (eqb-false q 0 e, eqb-false n steps_most f)
 
 -- past the test: the run has a step to make
-module _ (c : tie.Else2 invariant-loop decreases-loop) where
-  abbrev joined : tie.Joined1 invariant-loop decreases-loop
+module _ (c : tie.Else-run-n invariant_loop decreases_loop) where
+  abbrev joined : tie.Joined-not-lies_in invariant_loop decreases_loop
   joined = c.before.before
 
-  goes_on : ((here joined).loop.run.q ≡ 0 → ⊥) × ((here joined).loop.n ≡ steps_most → ⊥)
-  goes_on = neither (here joined).loop.run.q (here joined).loop.n c.if2.false
+  goes_on : ((here joined).loop-band.run.q ≡ 0 → ⊥) × ((here joined).loop-band.n ≡ steps_most → ⊥)
+  goes_on = neither (here joined).loop-band.run.q (here joined).loop-band.n c.if-run-n.false
 
-  steps_left : (here joined).loop.n < steps_most
-  steps_left = omega (arith, (here joined).loop.inv.0.steps, goes_on.1)
+  steps_left : (here joined).loop-band.n < steps_most
+  steps_left = omega (arith, (here joined).loop-band.invariant.0.steps, goes_on.1)
 
-  moves : 0 < (here joined).loop.run.q
+  moves : 0 < (here joined).loop-band.run.q
   moves = omega (arith, goes_on.0)
 
 -- the step over the ground under the train is the step over the track
@@ -108,55 +108,55 @@ over_track : (c : Consist) (force : ℕ → ℕ) (t : Track) (r r' : Run) (u : U
 unfolding step_of opposing loss
 over_track c force t r r' u e f = e ∙ ap (λ (x : Under). step_of c force (even x) r) f
 
-started-requires : tie.Need-started-requires invariant-loop decreases-loop
-started-requires c κs = tt
+started_requires : tie.Need-started-run-requires invariant_loop decreases_loop
+started_requires c κs = tt
 
-quiet-band-requires : tie.Need-quiet-band-requires invariant-loop decreases-loop
-quiet-band-requires c κs = tt
+quiet_band_requires : tie.Need-quiet_band-band-requires invariant_loop decreases_loop
+quiet_band_requires c κs = tt
 
-loop_holds : tie.Need-loop-init invariant-loop decreases-loop
+loop_holds : tie.Need-loop-band-init invariant_loop decreases_loop
 loop_holds c =
-    let a = c.before.before.before.before.before.args in
-    (rw c.before.started.ensures (walk_begins a.c _ _ a.head a.speed a.speeds), c.quiet-band.ensures)
+    let a = c.args in
+    (rw c.started-run.ensures (walk_begins a.c _ _ a.head a.speed a.speeds), c.quiet_band-band.ensures)
 
-lies-in-requires : tie.Need-lies-in-requires invariant-loop decreases-loop
+lies-in-requires : tie.Need-lies_in-requires invariant_loop decreases_loop
 lies-in-requires c κs = tt
 
-marked-requires : tie.Need-marked-requires invariant-loop decreases-loop
-marked-requires c κs = tt
+marked_requires : tie.Need-marked-now-requires invariant_loop decreases_loop
+marked_requires c κs = tt
 
-quiet-band-requires-2 : tie.Need-quiet-band-requires-2 invariant-loop decreases-loop
-quiet-band-requires-2 c κs = tt
+quiet_band_requires_2 : tie.Need-quiet_band-band-requires-then-not-lies_in invariant_loop decreases_loop
+quiet_band_requires_2 c κs = tt
 
-ended-requires : tie.Need-ended-requires invariant-loop decreases-loop
+ended-requires : tie.Need-ended-requires invariant_loop decreases_loop
 ended-requires c κs = tt
 
-returns : tie.Need-returns invariant-loop decreases-loop
+returns : tie.Need-returns-then-run-n invariant_loop decreases_loop
 returns c =
     let j = c.before.before.before in
-    let e : c.ended.result ≡ ended_with (here j).loop.run j.if1.arrivals = c.ended.ensures in
-    e ∙ answer_ended (eight (entry j)) (here j).loop.invariant.0 (marks j).0 (entry j).requires.0.head c.before.if2.true
+    let e : c.ended.result ≡ ended_with (here j).loop-band.run j.if-not-lies_in.arrivals = c.ended.ensures in
+    e ∙ answer_ended (eight (entry j)) (here j).loop-band.invariant.0 (marks j).0 (entry j).requires.0.head c.if-run-n.true
 
 -- where all is lent
-abbrev lent : tie.After-under invariant-loop decreases-loop → tie.Else2 invariant-loop decreases-loop
+abbrev lent : tie.After-under-under invariant_loop decreases_loop → tie.Else-run-n invariant_loop decreases_loop
 lent c = c.before.before.before.before
 
-under-requires : tie.Need-under-requires invariant-loop decreases-loop
-under-requires c κs = let s = entry (joined c.before.before.before) in (s.pre.0.track, (s.pre.1, s.pre.0.blocks))
+under-requires : tie.Need-under-under-requires invariant_loop decreases_loop
+under-requires c κs = let s = entry (joined c.before.before.before) in (s.requires.0.track, (s.requires.1, s.requires.0.blocks))
 
 -- what is under the train
-under_is : (c : tie.After-under invariant-loop decreases-loop) → let j = joined (lent c) in let t = (entry j).args.c in
-    c.under.result ≡ ground_under (track j) (here j).loop.run.head t.length t.weight t.blocks
-under_is c = c.under.ensures
+under_is : (c : tie.After-under-under invariant_loop decreases_loop) → let j = joined (lent c) in let t = (entry j).args.c in
+    c.under-under.result ≡ ground_under (track j) (here j).loop-band.run.head t.length t.weight t.blocks
+under_is c = c.under-under.ensures
 
-stepped-requires : tie.Need-stepped-requires invariant-loop decreases-loop
+stepped_requires : tie.Need-stepped-run-requires invariant_loop decreases_loop
 unfolding GentleGround
-stepped-requires c κs =
+stepped_requires c κs =
     let e = lent c in
     let j = joined e in
-    let s = (entry j).pre.0 in
-    let r = (here j).loop.run in
-    let w = (here j).loop.inv.0 in
+    let s = (entry j).requires.0 in
+    let r = (here j).loop-band.run in
+    let w = (here j).loop-band.invariant.0 in
     let t = (entry j).args.c in
     let averaged = gentle_ground (track j) r.head t.length t.weight t.blocks s.track s.blocks in
     record {
@@ -169,21 +169,21 @@ stepped-requires c κs =
       slow = slow j;
     }
 
-add-n : tie.Need-overflow-add-n invariant-loop decreases-loop
+add-n : tie.Need-overflow_add-n invariant_loop decreases_loop
 add-n c = omega (arith, steps_left (lent c.before))
 
-loop_less : tie.Need-loop-smaller invariant-loop decreases-loop
+loop_less : tie.Need-loop-band-smaller invariant_loop decreases_loop
 loop_less c = omega (arith, steps_left (lent c.before))
 
-loop_again : tie.Need-loop-preserved invariant-loop decreases-loop
+loop_again : tie.Need-loop-band-preserved invariant_loop decreases_loop
 loop_again c =
     let e = lent c.before in
     let j = joined e in
     let a = (entry j).args in
-    let s = (entry j).pre.0 in
-    let r = (here j).loop.run in (
-      rw (over_track a.c (force j) (track j) r _ _ c.stepped.ensures (under_is c.before))
-          (walks_on (eight (entry j)) (here j).loop.inv.0 (marks j).0 s.head (moves e) (steps_left e)
+    let s = (entry j).requires.0 in
+    let r = (here j).loop-band.run in (
+      rw (over_track a.c (force j) (track j) r _ _ c.stepped-run.ensures (under_is c.before))
+          (walks_on (eight (entry j)) (here j).loop-band.invariant.0 (marks j).0 s.head (moves e) (steps_left e)
           (gains a.c (force j) (ground_of (track j) a.c) s.limited (gentle_no_steeper (track j) a.c s.track s.blocks) r)),
       (marks j).1,
     )
@@ -192,18 +192,18 @@ pub predict_spec : {M : Type 1} → statement M
 predict_spec =
     tie.close
     (tie.spec
-    invariant-loop
-    decreases-loop
-    started-requires
-    quiet-band-requires
+    invariant_loop
+    decreases_loop
+    started_requires
+    quiet_band_requires
     loop_holds
     lies-in-requires
-    marked-requires
-    quiet-band-requires-2
+    marked_requires
+    quiet_band_requires_2
     ended-requires
     returns
     under-requires
-    stepped-requires
+    stepped_requires
     add-n
     loop_less
     loop_again)

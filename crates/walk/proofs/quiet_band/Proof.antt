@@ -11,10 +11,10 @@ use Rattle.walk.specs.Marks.{Kept, Inside}
 use Rattle.walk.proofs.quiet_band.Statement.{statement}
 use Rattle.walk.proofs.quiet_band.Tie as tie
 
-abbrev invariant-loop : tie.invariant-loop
+abbrev invariant-loop : tie.invariant-loop-i
 invariant-loop arrivals speeds band₀ i₀ band i = (i ≤ most) × ((k : ℕ) → k < i → Kept band (get_or speeds k 0 * get_or speeds k 0) (get_or arrivals k 0))
 
-abbrev decreases-loop : tie.decreases-loop
+abbrev decreases-loop : tie.decreases-loop-i
 decreases-loop arrivals speeds band₀ i₀ band i = most - i
 
 -- what stays in a band stays in one inside it
@@ -22,16 +22,16 @@ kept_inside : (one other : Band) (s arrival : ℕ) → Inside one other → Kept
 kept_inside one other s arrival inside kept =
     record { opened = λ e. le_trans (kept.opened e) inside.low; closed = λ e. le_trans inside.high (kept.closed e) }
 
-loop_holds : tie.Need-loop-init invariant-loop decreases-loop
+loop_holds : tie.Need-loop-i-init invariant-loop decreases-loop
 loop_holds c = (omega arith, λ k h. absurd (omega arith))
 
-loop_again : tie.Need-loop-preserved invariant-loop decreases-loop
+loop_again : tie.Need-loop-i-preserved invariant-loop decreases-loop
 loop_again c =
-    let l = c.before.before.loop in
-    (omega arith, below_more _ l.i (λ k h. kept_inside _ _ _ _ c.narrowed.ensures.0 (l.invariant.1 k h)) c.narrowed.ensures.1)
+    let l = c.loop-i in
+    (omega arith, below_more _ l.i (λ k h. kept_inside _ _ _ _ c.narrowed-band.ensures.0 (l.invariant.1 k h)) c.narrowed-band.ensures.1)
 
 returns : tie.Need-returns invariant-loop decreases-loop
-returns c = record { each = λ i h. c.before.loop.invariant.1 i (omega arith) }
+returns c = record { each = λ i h. c.loop-i.invariant.1 i (omega arith) }
 
 pub quiet_band_spec : {M : Type 1} → statement M
 quiet_band_spec =

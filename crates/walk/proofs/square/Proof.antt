@@ -6,7 +6,7 @@ use borrow.Author.Rules.{rules}
 use Rattle.walk.proofs.square.Statement.{statement}
 use Rattle.walk.proofs.square.Tie as tie
 
-mul-result : tie.Need-overflow-mul-result
+mul-result : tie.Need-overflow_mul-result
 mul-result c = let h : c.args.speed ≤ 65535 = omega arith in omega (arith, mul-le-mul h h)
 
 returns : tie.Need-returns

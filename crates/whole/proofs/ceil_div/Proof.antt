@@ -31,25 +31,25 @@ module _ (a b : ℕ) where
     room : 0 < a % b → a / b < a
     room l = omega (arith, div-add-mod' a b, mul-le-mul_left (a / b) h)
 
-rem-if2 : tie.Need-nonzero-rem-if2
+rem-if2 : tie.Need-nonzero_rem-a
 rem-if2 c = search rules
 
-div-result : tie.Need-nonzero-div-result
+div-result : tie.Need-nonzero_div-result
 div-result c = search rules
 
-add-result : tie.Need-overflow-add-result
+add-result : tie.Need-overflow_add-result
 add-result c = let s = c.before.before in omega (arith, room s.args.a s.args.b (omega arith) (omega arith))
 
-div-result-2 : tie.Need-nonzero-div-result-2
+div-result-2 : tie.Need-nonzero_div-result-else-a-b-gt0
 div-result-2 c = search rules
 
-returns : tie.Need-returns
-returns c = none c.before.args.a c.before.args.b c.if1.true
+returns : tie.Need-returns-then-b-eq0
+returns c = none c.args.a c.args.b c.if-b-eq0.true
 
-returns-2 : tie.Need-returns-2
+returns-2 : tie.Need-returns-then-a-b-gt0
 returns-2 c = let s = c.before.before in over s.args.a s.args.b (omega arith) (omega arith)
 
-returns-3 : tie.Need-returns-3
+returns-3 : tie.Need-returns-else-a-b-gt0
 returns-3 c = let s = c.before.before in exact s.args.a s.args.b (omega arith) (omega arith)
 
 pub ceil_div_spec : {M : Type 1} → statement M

@@ -90,61 +90,61 @@ division a (pos d) e =
     record { some_divisor = h; fits = quot_fits a d h; at_quotient = level a d h; one_under = lower a d h }
 division a (negsuc d) e = absurd (true≢false e)
 
-module _ (c : tie.Else1) where
+module _ (c : tie.Else-b-le0) where
   abbrev a : ℤ
-  a = c.before.args.a
+  a = c.args.a
 
   abbrev b : ℤ
-  b = c.before.args.b
+  b = c.args.b
 
   by : Division a b
-  by = division a b (rw (to_z-of_z c.before.ranges.b) at c.if1.false)
+  by = division a b (rw (to_z-of_z c.ranges.b) at c.if-b-le0.false)
 
   dividend : Holds w64 (of_z w64 a) a
-  dividend = fit_holds c.before.ranges.a
+  dividend = fit_holds c.ranges.a
 
   divisor : Holds w64 (of_z w64 b) b
-  divisor = fit_holds c.before.ranges.b
+  divisor = fit_holds c.ranges.b
 
   asked : (0 < of_z w64 b) × SFits w64 (quot_z (to_z w64 (of_z w64 a)) (to_z w64 (of_z w64 b)))
-  asked = (by.some_divisor, op_fits quot_z dividend divisor (by.fits c.before.ranges.a))
+  asked = (by.some_divisor, op_fits quot_z dividend divisor (by.fits c.ranges.a))
 
   abbrev quotient : ℕ
   quotient = of_z w64 (quot_z (to_z w64 (of_z w64 a)) (to_z w64 (of_z w64 b)))
 
   quotient_holds : Holds w64 quotient (quot_z a b)
-  quotient_holds = op_holds quot_z dividend divisor (by.fits c.before.ranges.a)
+  quotient_holds = op_holds quot_z dividend divisor (by.fits c.ranges.a)
 
   remainder_holds : Holds w64 (of_z w64 (rem_z (to_z w64 (of_z w64 a)) (to_z w64 (of_z w64 b)))) (rem_z a b)
-  remainder_holds = op_holds rem_z dividend divisor (sfits_le (mag_rem a b) c.before.ranges.a)
+  remainder_holds = op_holds rem_z dividend divisor (sfits_le (mag_rem a b) c.ranges.a)
 
-returns-3 : tie.Need-returns-3
+returns-3 : tie.Need-returns-else-a-b-lt0
 returns-3 c =
     (quotient_holds c.before).reads
-    ∙ (by c.before).at_quotient (rw (remainder_holds c.before).reads at c.if2.false)
+    ∙ (by c.before).at_quotient (rw (remainder_holds c.before).reads at c.if-a-b-lt0.false)
 
-module _ (c : tie.Then2) where
+module _ (c : tie.Then-a-b-lt0) where
   less : to_z w64 (quotient c.before) -ℤ pos 1 ≡ floor_div (a c.before) (b c.before)
   less =
       rw (quotient_holds c.before).reads
-      ((by c.before).one_under (rw (remainder_holds c.before).reads at c.if2.true))
+      ((by c.before).one_under (rw (remainder_holds c.before).reads at c.if-a-b-lt0.true))
 
   less_fits : SFits w64 (to_z w64 (quotient c.before) -ℤ pos 1)
-  less_fits = subst (SFits w64) (sym less) (floor_fits (a c.before) (b c.before) c.before.before.ranges.a)
+  less_fits = subst (SFits w64) (sym less) (floor_fits (a c.before) (b c.before) c.ranges.a)
 
-returns : tie.Need-returns
-returns c = none c.before.args.a c.before.args.b (rw (to_z-of_z c.before.ranges.b) at c.if1.true)
+returns : tie.Need-returns-then-b-le0
+returns c = none c.args.a c.args.b (rw (to_z-of_z c.ranges.b) at c.if-b-le0.true)
 
-returns-2 : tie.Need-returns-2
+returns-2 : tie.Need-returns-then-a-b-lt0
 returns-2 c = to_z-of_z (less_fits c) ∙ less c
 
-div-q : tie.Need-nonzero-div-q
+div-q : tie.Need-nonzero_div-q
 div-q c = asked c
 
-rem-if2 : tie.Need-nonzero-rem-if2
+rem-if2 : tie.Need-nonzero_rem-a
 rem-if2 c = asked c
 
-sub-result : tie.Need-overflow-sub-result
+sub-result : tie.Need-overflow_sub-result
 sub-result c = less_fits c
 
 pub floor_div_spec : {M : Type 1} → statement M

@@ -34,26 +34,26 @@ module _ (q n ahead : ℕ) (h : LongHand) (u : Underway q n ahead h) where
 closed : (q ahead : ℕ) (h : LongHand) → Underway q 0 ahead h → h.root ≡ root_of q
 closed q ahead h u = root_unique q h.root (omega arith)
 
-abbrev invariant-loop : tie.invariant-loop
+abbrev invariant-loop : tie.invariant-loop-left
 invariant-loop q left₀ ahead₀ so_far₀ left ahead so_far = Underway q left ahead so_far
 
-abbrev decreases-loop : tie.decreases-loop
+abbrev decreases-loop : tie.decreases-loop-left
 decreases-loop q left₀ ahead₀ so_far₀ left ahead so_far = left
 
-loop_holds : tie.Need-loop-init invariant-loop decreases-loop
-loop_holds c = started _ c.turns.result c.turns.ensures
+loop_holds : tie.Need-loop-left-init invariant-loop decreases-loop
+loop_holds c = started _ c.turns-left.result c.turns-left.ensures
 
-turn-requires : tie.Need-turn-requires invariant-loop decreases-loop
+turn-requires : tie.Need-turn-so_far-requires invariant-loop decreases-loop
 turn-requires c κs =
-    let l = c.before.loop in
+    let l = c.loop-left in
     record { small = l.invariant.small; half = half _ l.left l.ahead l.so_far l.invariant (omega arith); bits = omega arith }
 
-loop_again : tie.Need-loop-preserved invariant-loop decreases-loop
-loop_again c = let l = c.before.before.loop in turned _ l.left l.ahead l.so_far l.invariant c.turn.result (omega arith) c.turn.ensures
+loop_again : tie.Need-loop-left-preserved invariant-loop decreases-loop
+loop_again c = let l = c.loop-left in turned _ l.left l.ahead l.so_far l.invariant c.turn-so_far.result (omega arith) c.turn-so_far.ensures
 
 returns : tie.Need-returns invariant-loop decreases-loop
 returns c =
-    let l = c.before.loop in
+    let l = c.loop-left in
     let e : l.left ≡ 0 = omega arith in
     closed _ l.ahead l.so_far (rw e at l.invariant)
 

@@ -10,9 +10,9 @@ returns : tie.Need-returns
 returns c =
     let put = c.before.before.before in
     let none = put.before.before in
-    let a = none.before.before.args in
+    let a = none.args in
     let fields = a.cars ∷ a.axles ∷ a.weight ∷ a.length ∷ a.rated ∷ a.application ∷ a.recharge ∷ a.set ∷ a.offset ∷ [] in
-    told_of c.verdict-number.ensures (consist_told fields a.out.now _ none.none.ensures _ put.write.ensures)
+    told_of c.verdict_number.ensures (consist_told fields a.out.now _ none.none-blocks.ensures _ put.write-verdict.ensures)
 
 pub consist_spec : {M : Type 1} → statement M
 consist_spec =

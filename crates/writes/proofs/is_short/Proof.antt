@@ -18,11 +18,11 @@ in_blocks room count h = let fit = (room - consist.size) / blocks.size in by (lt
     by true below above = sym (lt-ltb room (size_with count) (omega (arith, below refl)))
     by false below above = sym (le-ltb room (size_with count) (omega (arith, above refl)))
 
-returns : tie.Need-returns
-returns c = sym (lt-ltb c.before.args.room (size_with c.before.args.count) (omega arith))
+returns : tie.Need-returns-then-room-lt-SIZE
+returns c = sym (lt-ltb c.args.room (size_with c.args.count) (omega arith))
 
-returns-2 : tie.Need-returns-2
-returns-2 c = in_blocks c.before.args.room c.before.args.count (omega arith)
+returns-2 : tie.Need-returns
+returns-2 c = in_blocks c.args.room c.args.count (omega arith)
 
 pub is_short_spec : {M : Type 1} → statement M
 is_short_spec = tie.close (tie.spec returns returns-2)

@@ -15,11 +15,11 @@ use Rattle.writes.proofs.judge_front.Tie as tie
 
 returns : tie.Need-returns
 returns c =
-    let wrote = c.before.write in
-    let alone = c.before.before.before.alone in
+    let wrote = c.write in
+    let alone = c.alone-alone in
     ap (λ (x : Verdict × List ℕ). x.0) (told_one _ _ wrote.ensures)
     ∙ ap (λ (x : Consist). (write_consist x (replicate size 0)).0) alone.ensures
-    ∙ front_verdict c.before.before.before.before.args.c (replicate size 0) (omega arith)
+    ∙ front_verdict c.args.c (replicate size 0) (omega arith)
 
 pub judge_front_spec : {M : Type 1} → statement M
 judge_front_spec = tie.close (tie.spec (λ c κs. search rules) (λ c. search rules) (λ c κs. search rules) returns)

@@ -10,10 +10,10 @@ returns : tie.Need-returns
 returns c =
     let put = c.before.before.before in
     let none = put.before.before in
-    let a = none.before.before.before.before.args in
+    let a = none.args in
     let fields = a.cars ∷ a.axles ∷ a.weight ∷ a.length ∷ a.rated ∷ a.application ∷ a.recharge ∷ a.set ∷ a.offset ∷ [] in
-    told_of c.verdict-number.ensures
-    (manifest_told fields a.out.now _ none.none.ensures _ a.lengths.now a.weights.now put.write-manifest.ensures)
+    told_of c.verdict_number.ensures
+    (manifest_told fields a.out.now _ none.none-blocks.ensures _ a.lengths.now a.weights.now put.write_manifest-verdict.ensures)
 
 pub manifest_spec : {M : Type 1} → statement M
 manifest_spec =

@@ -7,7 +7,7 @@ use Rattle.writes.proofs.profile.Tie as tie
 
 returns : tie.Need-returns
 unfolding profile_written
-returns c = told_of c.verdict-number.ensures c.before.before.before.write.ensures
+returns c = told_of c.verdict_number.ensures c.write-verdict.ensures
 
 pub profile_spec : {M : Type 1} → statement M
 profile_spec =

@@ -35,37 +35,37 @@ module _ (c : tie.Start) where
   tested : lost_not_zero fields ≡ (eqb c.args.present 0 && not (eqb c.args.rear 0))
   tested = ap (λ (b : Bool). b && not (eqb c.args.rear 0)) (lost (eqb c.args.present 0))
 
-returns : tie.Need-returns
+returns : tie.Need-returns-in_default
 unfolding sample_written
 returns c =
-    let k = c.before.before.before.before.before in
+    let k = c.before.before.before.before in
     told_of c.number.ensures
     (sym
     (ap (λ (v : Verdict). told (written v (bytes_of (of_fields (fields k))) (out k)))
     (given _ WrongMark (write_rules (of_fields (fields k)) (out k)) tt
-    (tested k ∙ off_unless _ (sym c.before.enum-told2.given.1 ∙ c.before.before.before.unless.ensures)))))
+    (tested k ∙ off_unless _ (sym c.in_default.is ∙ c.unless.ensures)))))
 
-returns-2 : tie.Need-returns-2
+returns-2 : tie.Need-returns
 unfolding sample_written write_sample
 returns-2 c =
     let put = c.before.before.before in
     let read = put.before.before in
     let past = read.before.before.before in
-    let k = past.before.before.before.before in
+    let k = past.before.before.before in
     let raw = of_fields (fields k) in
     let is_raw : _ ≡ raw = (λ i. record {
       time = k.args.time;
       head = k.args.head;
-      speed = read.before.before.float_of.ensures i;
-      front = read.before.float-of2.ensures i;
-      rear = (read.rear-of.ensures ∙ sym (ap (λ (b : Bool). rear_of b k.args.rear) (lost (eqb k.args.present 0)))) i;
+      speed = read.float_of-speed.ensures i;
+      front = read.float_of-front.ensures i;
+      rear = (read.rear_of-rear.ensures ∙ sym (ap (λ (b : Bool). rear_of b k.args.rear) (lost (eqb k.args.present 0)))) i;
     }) in
-    told_of c.verdict-number.ensures
-    (put.write.ensures
+    told_of c.verdict_number.ensures
+    (put.write-verdict.ensures
     ∙ ap (λ (x : RawSample). told (write_sample x (out k))) is_raw
     ∙ sym
     (ap (λ (v : Verdict). told (written v (bytes_of raw) (out k)))
-    (passed _ WrongMark (write_rules raw (out k)) (tested k ∙ on_unless _ (sym past.enum_told.given.1 ∙ past.before.before.unless.ensures)))))
+    (passed _ WrongMark (write_rules raw (out k)) (tested k ∙ on_unless _ (sym past.in-On.is ∙ past.unless.ensures)))))
 
 pub sample_spec : {M : Type 1} → statement M
 sample_spec =

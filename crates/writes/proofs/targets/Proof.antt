@@ -7,7 +7,7 @@ use Rattle.writes.proofs.targets.Tie as tie
 
 returns : tie.Need-returns
 unfolding targets_written
-returns c = told_of c.verdict-number.ensures c.before.before.before.write.ensures
+returns c = told_of c.verdict_number.ensures c.write-verdict.ensures
 
 pub targets_spec : {M : Type 1} → statement M
 targets_spec =

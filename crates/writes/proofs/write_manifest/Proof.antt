@@ -29,7 +29,7 @@ unfolding write_manifest
 refused c lengths weights out v r e h =
     ap (λ (w : Verdict). told (w, out)) e ∙ sym (ap (λ (w : Verdict). told (written w (bytes_of (manifest_of c lengths weights)) out)) h)
 
-module _ (c : tie.After-judge-front) where
+module _ (c : tie.After-judge_front-verdict) where
   abbrev args : tie.Start
   args = c.before.before.before.before
 
@@ -49,46 +49,46 @@ module _ (c : tie.After-judge-front) where
   abbrev behind : List Rule
   behind = (no_room (size_with (length lengths)) out, NoRoom) ∷ (broken_lists front lengths weights, BrokenBlocks) ∷ []
 
-returns : tie.Need-returns
+returns : tie.Need-returns-in_default
 returns c =
-    let k = c.before.before in
-    let v = c.enum-told2.given.1 in
-    refused (front k) (lengths k) (weights k) (out k) _ _ v (append_given (consist_rules (front k)) (behind k) _ tt (sym k.judge-front.ensures ∙ v))
+    let k = c.before in
+    let v = c.in_default.is in
+    refused (front k) (lengths k) (weights k) (out k) _ _ v (append_given (consist_rules (front k)) (behind k) _ tt (sym k.judge_front-verdict.ensures ∙ v))
 
 -- past 4 and 5
-past_front : (c : tie.After-enum-told) → lowest (rules (front c.before.before) ++ behind c.before.before) ≡ lowest (behind c.before.before)
+past_front : (c : tie.In-Accepted) → lowest (consist_rules (front c.before) ++ behind c.before) ≡ lowest (behind c.before)
 past_front c =
-    let k = c.before.before in
-    append_passed (rules (front k)) (behind k) (sym k.judge-front.ensures ∙ c.enum_told.given.1)
+    let k = c.before in
+    append_passed (consist_rules (front k)) (behind k) (sym k.judge_front-verdict.ensures ∙ c.in-Accepted.is)
 
-returns-2 : tie.Need-returns-2
+returns-2 : tie.Need-returns-in_default-unless
 unfolding no_room
 returns-2 c =
-    let fit = c.before.before.before.before in
-    let k = fit.before.before in
-    let short = sym c.before.before.before.is-short.ensures ∙ off_unless _ (sym c.enum-told4.given.1 ∙ c.before.before.unless.ensures) in
+    let fit = c.before.before.before in
+    let k = fit.before in
+    let short = sym c.is_short.ensures ∙ off_unless _ (sym c.in_default-unless.is ∙ c.unless.ensures) in
     refused (front k) (lengths k) (weights k) (out k) _ NoRoom refl (past_front fit ∙ given _ NoRoom _ tt short)
 
-returns-3 : tie.Need-returns-3
+returns-3 : tie.Need-returns-in_default-unless-2
 unfolding no_room
 returns-3 c =
-    let roomy = c.before.before.before.before in
-    let fit = roomy.before.before.before.before in
-    let k = fit.before.before in
-    let room = sym roomy.before.before.before.is-short.ensures ∙ on_unless _ (sym roomy.enum-told3.given.1 ∙ roomy.before.before.unless.ensures) in
-    let no = sym c.before.before.before.are-listed.ensures ∙ not-true _ (off_unless _ (sym c.enum-told6.given.1 ∙ c.before.before.unless2.ensures)) in
+    let roomy = c.before.before.before in
+    let fit = roomy.before.before.before in
+    let k = fit.before in
+    let room = sym roomy.is_short.ensures ∙ on_unless _ (sym roomy.in-On.is ∙ roomy.unless.ensures) in
+    let no = sym c.are_listed.ensures ∙ not-true _ (off_unless _ (sym c.in_default-unless-2.is ∙ c.unless-2.ensures)) in
     refused (front k) (lengths k) (weights k) (out k) _ BrokenBlocks refl
     (past_front fit
     ∙ passed _ NoRoom _ room
     ∙ given _ BrokenBlocks [] tt (ap (λ (listed : Bool). not (listed && sound_blocks (manifest_of (front k) (lengths k) (weights k)))) no))
 
-returns-4 : tie.Need-returns-4
+returns-4 : tie.Need-returns
 returns-4 c =
     let put = c.before.before in
     let listed = put.before.before.before.before in
-    let k = listed.before.before.before.before.before.before.before.before.before.before in
-    let yes = sym listed.before.before.before.are-listed.ensures ∙ not-false _ (on_unless _ (sym listed.enum-told5.given.1 ∙ listed.before.before.unless2.ensures)) in
-    listed_told (front k) (lengths k) (weights k) (out k) _ _ _ yes put.before.before.before.of-lists.ensures put.before.before.with-blocks.ensures put.write.ensures
+    let k = listed.before.before.before.before.before.before.before in
+    let yes = sym listed.are_listed.ensures ∙ not-false _ (on_unless _ (sym listed.in-On-unless.is ∙ listed.unless-2.ensures)) in
+    listed_told (front k) (lengths k) (weights k) (out k) _ _ _ yes put.of_lists-blocks.ensures put.with_blocks-c.ensures put.write.ensures
 
 pub write_manifest_spec : {M : Type 1} → statement M
 write_manifest_spec =

@@ -6,13 +6,13 @@ use borrow.Author.Rules.{rules}
 use Rattle.air.proofs.Air.applying.Statement.{statement}
 use Rattle.air.proofs.Air.applying.Tie as tie
 
-returns : tie.Need-returns
+returns : tie.Need-returns-then-r
 unfolding start_applying
-returns c = c.applying-emergency.ensures ∙ passed _ _ _ c.before.if1.true
+returns c = c.applying_emergency.ensures ∙ passed _ _ _ c.if-r.true
 
-returns-2 : tie.Need-returns-2
+returns-2 : tie.Need-returns-else-r
 unfolding start_applying
-returns-2 c = c.applying-service.ensures ∙ failed _ _ _ c.before.if1.false
+returns-2 c = c.applying_service.ensures ∙ failed _ _ _ c.if-r.false
 
 pub applying_spec : {M : Type 1} → statement M
 applying_spec = tie.close (tie.spec (λ c κs. search rules) (λ c κs. search rules) returns returns-2)

@@ -6,13 +6,13 @@ use Rattle.air.proofs.Air.applying_emergency.Statement.{statement}
 use Rattle.air.proofs.Air.applying_emergency.Tie as tie
 
 -- equalization is taken from A and B as they are held
-equalized : (c : tie.After-equalization-emergency) → let start = c.before.before.args in
-    c.equalization-emergency.result ≡ equalization_emergency start.self.a start.self.b start.nominal
-equalized c = c.equalization-emergency.ensures
+equalized : (c : tie.After-equalization_emergency-equalization) → let start = c.args in
+    c.equalization_emergency-equalization.result ≡ equalization_emergency start.self.a start.self.b start.nominal
+equalized c = c.equalization_emergency-equalization.ensures
 
 returns : tie.Need-returns
 unfolding start_emergency
-returns c = rw (c.fall-emergency.ensures, equalized c.before, c.before.before.combined.ensures) refl
+returns c = rw (c.fall_emergency.ensures, equalized c.before, c.combined-a.ensures) refl
 
 pub applying_emergency_spec : {M : Type 1} → statement M
 applying_emergency_spec = tie.close (tie.spec (λ c κs. search rules) (λ c κs. search rules) (λ c κs. search rules) returns)

@@ -7,17 +7,17 @@ use Rattle.air.proofs.Choices.{passed, failed}
 use Rattle.air.proofs.Air.in_emergency.Statement.{statement}
 use Rattle.air.proofs.Air.in_emergency.Tie as tie
 
-returns : tie.Need-returns
+returns : tie.Need-returns-then-is_in_emergency
 unfolding emergency_air
-returns c = c.before.before.of.ensures ∙ passed _ _ _ (sym c.before.is-in-emergency.ensures ∙ c.if1.true)
+returns c = c.of-held.ensures ∙ passed _ _ _ (sym c.is_in_emergency.ensures ∙ c.if-is_in_emergency.true)
 
-returns-2 : tie.Need-returns-2
+returns-2 : tie.Need-returns
 unfolding emergency_air
 returns-2 c =
     let tested = c.before.before.before in
-    c.applying-emergency.ensures
-    ∙ ap₂ start_emergency tested.before.of.ensures c.before.nominal.ensures
-    ∙ failed _ _ _ (sym tested.is-in-emergency.ensures ∙ c.before.before.if1.false)
+    c.applying_emergency.ensures
+    ∙ ap₂ start_emergency tested.of-held.ensures c.nominal.ensures
+    ∙ failed _ _ _ (sym tested.is_in_emergency.ensures ∙ c.if-is_in_emergency.false)
 
 pub in_emergency_spec : {M : Type 1} → statement M
 in_emergency_spec = tie.close (tie.spec (λ c κs. search rules) (λ c κs. search rules) returns (λ c κs. search rules) (λ c κs. search rules) returns-2)

@@ -31,27 +31,27 @@ module _ (s : List ℕ) (n : ℕ) (e : n ≡ min (count s) most) where
         full (column s 1) (λ k h. ap (λ (fs : List ℕ). get_or fs 1 0) (fields_past s k h)) weights w,
       )
 
-abbrev invariant-loop : tie.invariant-loop
+abbrev invariant-loop : tie.invariant-loop-k
 invariant-loop s lengths₀ weights₀ count k₀ lengths weights k =
     (k ≤ count) × (lengths ≡ filled (column s 0) 0 most k) × (weights ≡ filled (column s 1) 0 most k)
 
-abbrev decreases-loop : tie.decreases-loop
+abbrev decreases-loop : tie.decreases-loop-k
 decreases-loop s lengths₀ weights₀ count k₀ lengths weights k = count - k
 
-loop_again : tie.Need-loop-preserved invariant-loop decreases-loop
+loop_again : tie.Need-loop-k-preserved invariant-loop decreases-loop
 loop_again c =
-    let l = c.before.before.before.before.loop in
-    let word = c.before.before.word_at.ensures in
+    let l = c.loop-k in
+    let word = c.word_at-x.ensures in
     let h : l.k < most = omega arith in (
       omega arith,
-      fill _ 0 most l.k h _ _ l.invariant.1 (c.before.length-in.ensures ∙ ap (λ (x : ℕ). field_in x 0) word),
-      fill _ 0 most l.k h _ _ l.invariant.2 (c.weight-in.ensures ∙ ap (λ (x : ℕ). field_in x 1) word),
+      fill _ 0 most l.k h _ _ l.invariant.1 (c.length_in-length.ensures ∙ ap (λ (x : ℕ). field_in x 0) word),
+      fill _ 0 most l.k h _ _ l.invariant.2 (c.weight_in-weight.ensures ∙ ap (λ (x : ℕ). field_in x 1) word),
     )
 
 returns : tie.Need-returns invariant-loop decreases-loop
 returns c =
-    let l = c.before.loop in
-    let n = c.before.before.places in
+    let l = c.loop-k in
+    let n = c.places-count in
     let e : l.k ≡ n.result = omega arith in
     whole _ n.result n.ensures _ _ (l.invariant.1 ∙ ap (filled _ 0 most) e) (l.invariant.2 ∙ ap (filled _ 0 most) e)
 
@@ -60,4 +60,4 @@ laid_spec =
     tie.close
     (tie.spec invariant-loop decreases-loop (λ c κs. search rules) (λ c. (omega arith, refl, refl)) (λ c κs. search rules) (λ c κs. search rules) (λ c κs. search rules)
     (λ c. omega arith) (λ c. omega arith) (λ c. omega arith) (λ c. omega arith) (λ c. omega arith) (λ c. omega arith) loop_again
-    (λ c. omega (arith, c.before.before.places.ensures)) returns)
+    (λ c. omega (arith, c.places-count.ensures)) returns)

@@ -17,8 +17,8 @@ all lengths weights n ls ws e f g = rw (e, f, g)
 
 returns : tie.Need-returns
 returns c =
-    let a = c.before.before.before.before.before.args in
-    all a.lengths.now a.weights.now _ _ _ c.before.before.places.ensures c.before.filled.ensures c.filled2.ensures
+    let a = c.args in
+    all a.lengths.now a.weights.now _ _ _ c.places-count.ensures c.filled-all_lengths.ensures c.filled-all_weights.ensures
 
 pub of_lists_spec : {M : Type 1} → statement M
 of_lists_spec = tie.close (tie.spec (λ c κs. search rules) (λ c. search rules) (λ c κs. search rules) (λ c κs. search rules) returns)

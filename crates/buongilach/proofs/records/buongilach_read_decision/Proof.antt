@@ -4,7 +4,7 @@ use Rattle.buongilach.proofs.records.buongilach_read_decision.Statement.{stateme
 use Rattle.buongilach.proofs.records.buongilach_read_decision.Tie as tie
 
 returns : tie.Need-returns
-returns c = c.before.before.decision.ensures
+returns c = c.decision.ensures
 
 pub buongilach_read_decision_spec : {M : Type 1} → statement M
 buongilach_read_decision_spec = tie.close (tie.spec (λ c κs. search rules) (λ c. search rules) returns)

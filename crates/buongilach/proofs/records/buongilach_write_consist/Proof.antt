@@ -4,7 +4,7 @@ use Rattle.buongilach.proofs.records.buongilach_write_consist.Statement.{stateme
 use Rattle.buongilach.proofs.records.buongilach_write_consist.Tie as tie
 
 returns : tie.Need-returns
-returns c = c.before.before.consist.ensures
+returns c = c.consist.ensures
 
 pub buongilach_write_consist_spec : {M : Type 1} → statement M
 buongilach_write_consist_spec = tie.close (tie.spec (λ c κs. search rules) (λ c. search rules) returns)

@@ -4,7 +4,7 @@ use Rattle.buongilach.proofs.records.buongilach_write_sample.Statement.{statemen
 use Rattle.buongilach.proofs.records.buongilach_write_sample.Tie as tie
 
 returns : tie.Need-returns
-returns c = c.before.before.sample.ensures
+returns c = c.sample.ensures
 
 pub buongilach_write_sample_spec : {M : Type 1} → statement M
 buongilach_write_sample_spec = tie.close (tie.spec (λ c κs. search rules) (λ c. search rules) returns)

@@ -6,7 +6,7 @@ use Rattle.consist.proofs.Consist.alone.Statement.{statement}
 use Rattle.consist.proofs.Consist.alone.Tie as tie
 
 returns : tie.Need-returns
-returns c = c.with-blocks.ensures ∙ ap (with_blocks c.before.before.args.self) c.before.none.ensures
+returns c = c.with_blocks.ensures ∙ ap (with_blocks c.args.self) c.none.ensures
 
 pub alone_spec : {M : Type 1} → statement M
 alone_spec = tie.close (tie.spec (λ c κs. search rules) (λ c κs. search rules) returns)

@@ -7,7 +7,7 @@ use Rattle.learn.proofs.Learner.is_sound.Tie as tie
 
 returns : tie.Need-returns
 unfolding is_sound
-returns c = rw c.before.before.before.before.is-sound.ensures refl
+returns c = rw c.is_sound-sound.ensures refl
 
 pub is_sound_spec : {M : Type 1} → statement M
 is_sound_spec = tie.close (tie.spec (λ c κs. search rules) returns)

@@ -53,53 +53,53 @@ module _ (c : tie.Start) where
       ))
 
 -- the grade's share is found
-module _ (c : tie.After-grade-share) where
+module _ (c : tie.After-grade_share-grade) where
   abbrev start : tie.Start
   start = c.before.before.before.before.before
 
-  share_holds : Holds w64 (of_z w64 c.grade-share.result) (share start)
+  share_holds : Holds w64 (of_z w64 c.grade_share-grade.result) (share start)
   share_holds = record {
     reads =
-        to_z-of_z (sfits_of c.grade-share.type-inv)
-        ∙ c.grade-share.ensures
+        to_z-of_z {w = w64} (sfits_of c.grade_share-grade.type_inv)
+        ∙ c.grade_share-grade.ensures
         ∙ ap (λ (z : ℤ). grade_share_of z start.args.length start.args.weight) (gained start);
   }
 
 -- the curvature's is found too
-abbrev with_grade : tie.After-curvature-share → tie.After-grade-share
+abbrev with_grade : tie.After-curvature_share-curvature → tie.After-grade_share-grade
 with_grade c = c.before.before.before
 
-curvature_is : (c : tie.After-curvature-share) → let a = (start (with_grade c)).args in
-    c.curvature-share.result ≤ 2000 * a.weight
+curvature_is : (c : tie.After-curvature_share-curvature) → let a = (start (with_grade c)).args in
+    c.curvature_share-curvature.result ≤ 2000 * a.weight
 curvature_is c =
     let s = start (with_grade c) in
     omega (
       arith,
-      c.curvature-share.ensures,
-      curvature_most _ s.args.length s.args.weight s.pre.gentle_curvature,
+      c.curvature_share-curvature.ensures,
+      curvature_most _ s.args.length s.args.weight s.requires.gentle_curvature,
     )
 
-sub-grade-share : tie.Need-overflow-sub-grade-share
+sub-grade-share : tie.Need-overflow_sub-front
 sub-grade-share c = let s = c.before.before.before.before in op_fits ◌-ℤ◌ (front_holds s) (rear_holds s) (gain_fits s)
 
-grade-share-requires : tie.Need-grade-share-requires
+grade-share-requires : tie.Need-grade_share-grade-requires
 grade-share-requires c κs = let s = c.before.before.before.before in rw (gained s) s.requires.gentle_grade
 
-sub-curvature-share : tie.Need-overflow-sub-curvature-share
-sub-curvature-share c = let s = start c.before.before in omega (arith, s.pre.behind.rises)
+sub-curvature-share : tie.Need-overflow_sub-front-2
+sub-curvature-share c = let s = start c.before.before in omega (arith, s.requires.behind.rises)
 
-curvature-share-requires : tie.Need-curvature-share-requires
-curvature-share-requires c κs = let s = start c.before.before in (s.pre.gentle_curvature, s.pre.long)
+curvature-share-requires : tie.Need-curvature_share-curvature-requires
+curvature-share-requires c κs = let s = start c.before.before in (s.requires.gentle_curvature, s.requires.long)
 
-add-t8 : tie.Need-overflow-add-t8
+add-t8 : tie.Need-overflow_add-result
 add-t8 c =
     let g = with_grade c.before.before in
     op_fits ◌+ℤ◌ (before_holds (start g)) (share_holds g) (sum_fits (start g))
 
-add-t9 : tie.Need-overflow-add-t9
+add-t9 : tie.Need-overflow_add-result-2
 add-t9 c =
     let k = c.before.before.before in
-    omega (arith, (start (with_grade k)).pre.small_curvature, curvature_is k)
+    omega (arith, (start (with_grade k)).requires.small_curvature, curvature_is k)
 
 returns : tie.Need-returns
 returns c =
@@ -107,7 +107,7 @@ returns c =
     let g = with_grade k in
     ap₂ (λ (z : ℤ) (n : ℕ). record { grade = z; curvature = n })
     (op_holds ◌+ℤ◌ (before_holds (start g)) (share_holds g) (sum_fits (start g))).reads
-    (ap (λ (n : ℕ). (start g).args.self.curvature + n) k.curvature-share.ensures)
+    (ap (λ (n : ℕ). (start g).args.self.curvature + n) k.curvature_share-curvature.ensures)
 
 pub plus_spec : {M : Type 1} → statement M
 plus_spec =

@@ -14,8 +14,8 @@ together a b equalization most e = rw e
 
 returns : tie.Need-returns
 returns c =
-    let a = c.before.args in
-    together a.a a.b a.equalization c.above.result c.above.ensures
+    let a = c.args in
+    together a.a a.b a.equalization c.above-most.result c.above-most.ensures
 
 pub emergency_spec : {M : Type 1} → statement M
 emergency_spec = tie.close (tie.spec (λ c κs. search rules) returns)

@@ -17,8 +17,8 @@ together c a b end most e f = rw (f, e)
 returns : tie.Need-returns
 returns c =
     let e = c.before.before.before in
-    let a = e.before.args in
-    together a.c a.a a.b e.equalization-service.result c.above.result e.equalization-service.ensures c.above.ensures
+    let a = e.args in
+    together a.c a.a a.b e.equalization_service-end.result c.above.result e.equalization_service-end.ensures c.above.ensures
 
 pub penalty_spec : {M : Type 1} → statement M
 penalty_spec =

@@ -17,43 +17,43 @@ use borrow.Author.Rules.{rules}
 use Rattle.step.proofs.Run.stepped.Statement.{statement}
 use Rattle.step.proofs.Run.stepped.Tie as tie
 
-rooted : (c : tie.After-isqrt) → (0 < c.isqrt.result) × (c.isqrt.result ≤ root_most)
+rooted : (c : tie.After-isqrt-s) → (0 < c.isqrt-s.result) × (c.isqrt-s.result ≤ root_most)
 rooted c =
-    let q = c.before.args.self.q in
-    rw c.isqrt.ensures (root_pos q c.before.requires.some, root_most_lem q c.before.requires.slow)
+    let q = c.args.self.q in
+    rw c.isqrt-s.ensures (root_pos q c.requires.some, root_most_lem q c.requires.slow)
 
-isqrt-requires : tie.Need-isqrt-requires
+isqrt-requires : tie.Need-isqrt-s-requires
 isqrt-requires c κs = search rules
 
-force-requires : tie.Need-force-requires
+force-requires : tie.Need-force-f-requires
 force-requires c κs = search rules
 
-slowed-requires : tie.Need-slowed-requires
+slowed-requires : tie.Need-slowed-q-requires
 slowed-requires c κs =
     let s = c.before.before in
     let a = s.args in
     record {
-      force = rw c.force.ensures (force_most a.load.rated a.curve _ s.requires.rated s.requires.applied.curve);
+      force = rw c.force-f.ensures (force_most a.load.rated a.curve _ s.requires.rated s.requires.applied.curve);
       root = (rooted c.before).1;
       squared = s.requires.slow;
       grade = s.requires.grade;
       curvature = s.requires.curvature;
     }
 
-add-head : tie.Need-overflow-add-head
+add-head : tie.Need-overflow_add-head
 add-head c = search rules
 
-mul-clock : tie.Need-overflow-mul-clock
+mul-clock : tie.Need-overflow_mul-clock
 mul-clock c = omega (arith, rooted c.before.before.before)
 
-div-clock : tie.Need-nonzero-div-clock
+div-clock : tie.Need-nonzero_div-clock
 div-clock c = omega (arith, rooted c.before.before.before)
 
-add-clock : tie.Need-overflow-add-clock
+add-clock : tie.Need-overflow_add-clock
 unfolding step_time
 add-clock c =
     let b = c.before.before.before.before in
-    omega (arith, b.before.requires.applied.clock, time_most_lem b.isqrt.result (rooted b).0)
+    omega (arith, b.requires.applied.clock, time_most_lem b.isqrt-s.result (rooted b).0)
 
 -- from the root, the force and what is left of q, by the calls
 together : (c : Consist) (force : ℕ → ℕ) (u : Under) (r : Run) (s f q : ℕ) → s ≡ root_of r.q → f ≡ force r.clock
@@ -65,10 +65,10 @@ together c force u r s f q root forced left = rw (left, forced, root)
 returns : tie.Need-returns
 returns c =
     let b = c.before.before in
-    let root = b.before.before.isqrt in
-    let forced = b.before.force in
-    let a = b.before.before.before.args in
-    together (carrying a.load) (force_at a.load.rated a.curve) a.u a.self root.result forced.result b.slowed.result root.ensures forced.ensures b.slowed.ensures
+    let root = b.isqrt-s in
+    let forced = b.force-f in
+    let a = b.args in
+    together (carrying a.load) (force_at a.load.rated a.curve) a.u a.self root.result forced.result b.slowed-q.result root.ensures forced.ensures b.slowed-q.ensures
 
 pub stepped_spec : {M : Type 1} → statement M
 stepped_spec = tie.close (tie.spec isqrt-requires force-requires slowed-requires add-head mul-clock div-clock add-clock returns)

@@ -13,7 +13,7 @@ returns : tie.Need-returns
 returns c =
     let s = c.before.before.before in
     subst (λ (z : ℤ). Plus s.args.self s.args.feet z (get_or s.args.curvatures.now s.args.k 0) c.plus.result)
-    (to_z-of_z {w = w16} (record { sfits = c.before.before.plus-arg.given }))
+    (to_z-of_z {w = w16} (record { sfits = c.plus-arg-1.given }))
     c.plus.ensures
 
 pub along_spec : {M : Type 1} → statement M

@@ -70,22 +70,22 @@ module _ (c : tie.Start) where
     };
   }
 
-cast-t5 : tie.Need-overflow-cast-t5
+cast-t5 : tie.Need-overflow_cast-result
 cast-t5 c = search rules
 
-cast-t6 : tie.Need-overflow-cast-t6
+cast-t6 : tie.Need-overflow_cast-result-2
 cast-t6 c = cast_fits (fit_holds c.ranges.grade) (wide c)
 
-mul-t7 : tie.Need-overflow-mul-t7
+mul-t7 : tie.Need-overflow_mul-result
 mul-t7 c = op_fits ◌*ℤ◌ (feet_holds c) (grade_holds c) (term_fits c)
 
-add-t8 : tie.Need-overflow-add-t8
+add-t8 : tie.Need-overflow_add-result
 add-t8 c = let s = c.before.before in op_fits ◌+ℤ◌ (before_holds s) (term_holds s) (sum_fits s)
 
-mul-t11 : tie.Need-overflow-mul-t11
+mul-t11 : tie.Need-overflow_mul-result-2
 mul-t11 c = omega (arith, curvature_most c.before.before)
 
-add-t12 : tie.Need-overflow-add-t12
+add-t12 : tie.Need-overflow_add-result-2
 add-t12 c = let s = c.before.before.before in omega (arith, s.requires.curvature, curvature_most s)
 
 returns : tie.Need-returns

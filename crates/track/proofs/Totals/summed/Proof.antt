@@ -31,7 +31,7 @@ all : (t : Track) (gs : List ℤ) (cs : List ℕ) → gs ≡ placed t (grade_tot
 unfolding totals_of
 all t gs cs g c = rw (g, c)
 
-abbrev invariant-loop : tie.invariant-loop
+abbrev invariant-loop : tie.invariant-loop-k
 invariant-loop count starts grades curvatures totals₀ last sums₀ k₀ totals sums k =
     let t = track_of count starts grades curvatures in
     (k ≤ last)
@@ -40,76 +40,76 @@ invariant-loop count starts grades curvatures totals₀ last sums₀ k₀ totals
     × (totals.grades ≡ filled (grade_total t) (pos 0) most (k + 1))
     × (totals.curvatures ≡ filled (curvature_total t) 0 most (k + 1))
 
-abbrev decreases-loop : tie.decreases-loop
+abbrev decreases-loop : tie.decreases-loop-k
 decreases-loop count starts grades curvatures totals₀ last sums₀ k₀ totals sums k = last - k
 
 -- from where a segment's feet are known, the loop's start
-abbrev turn : tie.After-feet-between invariant-loop decreases-loop → tie.At-loop invariant-loop decreases-loop
-turn c = c.before.before.before.before
+abbrev turn : tie.After-feet_between-feet invariant-loop decreases-loop → tie.At-loop-k invariant-loop decreases-loop
+turn c = c.before.before.before.before.before
 
-loop_holds : tie.Need-loop-init invariant-loop decreases-loop
+loop_holds : tie.Need-loop-k-init invariant-loop decreases-loop
 unfolding grade_total curvature_total
 loop_holds c = (omega arith, refl, record { grade = omega arith; curvature = omega arith }, refl, refl)
 
-add-next : tie.Need-overflow-add-next invariant-loop decreases-loop
+add-next : tie.Need-overflow_add-next invariant-loop decreases-loop
 add-next c = omega arith
 
-mul-feet-between : tie.Need-overflow-mul-feet-between invariant-loop decreases-loop
+mul-feet-between : tie.Need-offset_bounds-starts-k invariant-loop decreases-loop
 mul-feet-between c = omega arith
 
-element-copy-out-feet-between : tie.Need-element-copy-out-feet-between invariant-loop decreases-loop
+element-copy-out-feet-between : tie.Need-bounds-starts-k invariant-loop decreases-loop
 element-copy-out-feet-between c = omega arith
 
-mul-feet-between-2 : tie.Need-overflow-mul-feet-between-2 invariant-loop decreases-loop
+mul-feet-between-2 : tie.Need-offset_bounds-starts-next invariant-loop decreases-loop
 mul-feet-between-2 c = omega arith
 
-element-copy-out-feet-between-2 : tie.Need-element-copy-out-feet-between-2 invariant-loop decreases-loop
+element-copy-out-feet-between-2 : tie.Need-bounds-starts-next invariant-loop decreases-loop
 element-copy-out-feet-between-2 c = omega arith
 
-along-requires : tie.Need-along-requires invariant-loop decreases-loop
+along-requires : tie.Need-along-sums-requires invariant-loop decreases-loop
 along-requires c κs =
-    let w = (turn c).loop.invariant.2 in
+    let w = (turn c).loop-k.invariant.2 in
     (record { grade = omega (arith, w.grade); curvature = omega (arith, w.curvature) }, omega arith)
 
-mul-grade : tie.Need-overflow-mul-grade invariant-loop decreases-loop
+mul-grade : tie.Need-offset_bounds-totals-next invariant-loop decreases-loop
 mul-grade c = omega arith
 
-element-set-from-grade : tie.Need-element-set-from-grade invariant-loop decreases-loop
+element-set-from-grade : tie.Need-bounds-totals-next invariant-loop decreases-loop
 element-set-from-grade c = omega arith
 
-mul-totals : tie.Need-overflow-mul-totals invariant-loop decreases-loop
+mul-totals : tie.Need-offset_bounds-totals-next-in-loop-k invariant-loop decreases-loop
 mul-totals c = omega arith
 
-element-write-totals : tie.Need-element-write-totals invariant-loop decreases-loop
+element-write-totals : tie.Need-bounds-totals-next-in-loop-k invariant-loop decreases-loop
 element-write-totals c = omega arith
 
-loop_less : tie.Need-loop-smaller invariant-loop decreases-loop
+loop_less : tie.Need-loop-k-smaller invariant-loop decreases-loop
 loop_less c = omega arith
 
-loop_again : tie.Need-loop-preserved invariant-loop decreases-loop
+loop_again : tie.Need-loop-k-preserved invariant-loop decreases-loop
 loop_again c =
     let feet = c.before.before in
-    let l = (turn feet).loop in
-    let a = (turn feet).before.before.args in
+    let l = (turn feet).loop-k in
+    let a = (turn feet).args in
     let t = track_of a.count a.starts.now a.grades.now a.curvatures.now in
-    let plus = c.before.along in
-    let added : plus.result ≡ plus_of l.sums feet.feet-between.result (at t l.k).grade (at t l.k).curvature = plus.ensures.sum in
-    let sum : plus.result ≡ total_of t (l.k + 1) = added ∙ next t l.k _ l.sums l.inv.1 feet.feet-between.ensures in
+    let plus = c.along-sums in
+    let added : plus.result ≡ plus_of l.sums feet.feet_between-feet.result (at t l.k).grade (at t l.k).curvature = plus.ensures.sum in
+    let sum : plus.result ≡ total_of t (l.k + 1) = added ∙ next t l.k _ l.sums l.invariant.1 feet.feet_between-feet.ensures in
     let stored : ℤ = to_z w64 (of_z w64 plus.result.grade) in
-    let back : stored ≡ plus.result.grade = to_z-of_z {w = w64} (record { sfits = c.struct_told.given.0.1 }) in (
+    let back : stored ≡ plus.result.grade = to_z-of_z {w = w64} (record { sfits = c.struct_told-1.given.0.1 }) in (
       omega arith,
       sum,
-      plus.ensures.sized l.k l.inv.2,
-      fill (grade_total t) (pos 0) most (l.k + 1) (omega arith) l.totals.grades stored l.inv.3 (back ∙ ap (λ (s : Sums). s.grade) sum),
-      fill (curvature_total t) 0 most (l.k + 1) (omega arith) l.totals.curvatures plus.result.curvature l.inv.4 (ap (λ (s : Sums). s.curvature) sum),
+      plus.ensures.sized l.k l.invariant.2,
+      fill (grade_total t) (pos 0) most (l.k + 1) (omega arith) l.totals.grades stored l.invariant.3 (back ∙ ap (λ (s : Sums). s.grade) sum),
+      fill (curvature_total t) 0 most (l.k + 1) (omega arith) l.totals.curvatures plus.result.curvature l.invariant.4 (ap (λ (s : Sums). s.curvature) sum),
     )
 
 returns : tie.Need-returns invariant-loop decreases-loop
 returns c =
-    let l = c.before.loop in
-    let a = c.before.before.before.args in
+    let l = c.loop-k in
+    let a = c.args in
     let t = track_of a.count a.starts.now a.grades.now a.curvatures.now in
-    let e : l.k ≡ segments t = omega (arith, c.before.before.segments.ensures) in
+    let e : l.k ≡ segments t = omega (arith, c.segments-last.ensures) in
     all t _ _
     (l.invariant.3 ∙ ap (λ (k : ℕ). filled (grade_total t) (pos 0) most (k + 1)) e)
     (l.invariant.4 ∙ ap (λ (k : ℕ). filled (curvature_total t) 0 most (k + 1)) e)

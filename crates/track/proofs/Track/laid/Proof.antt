@@ -30,55 +30,55 @@ module _ (p : List ℕ) (n : ℕ) (e : n ≡ min (count p) most) where
   whole starts grades curvatures s g k =
       rw (e, column (λ x. x.start) starts s, column (λ x. x.grade) grades g, column (λ x. x.curvature) curvatures k)
 
-abbrev invariant-loop : tie.invariant-loop
+abbrev invariant-loop : tie.invariant-loop-k
 invariant-loop p starts₀ grades₀ curvatures₀ count k₀ starts grades curvatures k =
     (k ≤ count)
     × (starts ≡ filled (start_at p) 0 most k)
     × (grades ≡ filled (grade_at p) (pos 0) most k)
     × (curvatures ≡ filled (curvature_at p) 0 most k)
 
-abbrev decreases-loop : tie.decreases-loop
+abbrev decreases-loop : tie.decreases-loop-k
 decreases-loop p starts₀ grades₀ curvatures₀ count k₀ starts grades curvatures k = count - k
 
-records-requires : tie.Need-records-requires invariant-loop decreases-loop
+records-requires : tie.Need-records-count-requires invariant-loop decreases-loop
 records-requires c κs = search rules
 
-loop_holds : tie.Need-loop-init invariant-loop decreases-loop
+loop_holds : tie.Need-loop-k-init invariant-loop decreases-loop
 loop_holds c = (omega arith, refl, refl, refl)
 
-add-next : tie.Need-overflow-add-next invariant-loop decreases-loop
+add-next : tie.Need-overflow_add-next invariant-loop decreases-loop
 add-next c = omega arith
 
-segment-at-requires : tie.Need-segment-at-requires invariant-loop decreases-loop
+segment-at-requires : tie.Need-segment_at-g-requires invariant-loop decreases-loop
 segment-at-requires c κs = search rules
 
-mul-starts : tie.Need-overflow-mul-starts invariant-loop decreases-loop
+mul-starts : tie.Need-offset_bounds-starts-k invariant-loop decreases-loop
 mul-starts c = omega arith
 
-array-write-starts : tie.Need-array-write-starts invariant-loop decreases-loop
+array-write-starts : tie.Need-bounds-starts-k invariant-loop decreases-loop
 array-write-starts c = omega arith
 
-mul-grades : tie.Need-overflow-mul-grades invariant-loop decreases-loop
+mul-grades : tie.Need-offset_bounds-grades-k invariant-loop decreases-loop
 mul-grades c = omega arith
 
-array-set-from-grades : tie.Need-array-set-from-grades invariant-loop decreases-loop
+array-set-from-grades : tie.Need-bounds-grades-k invariant-loop decreases-loop
 array-set-from-grades c = omega arith
 
-mul-curvatures : tie.Need-overflow-mul-curvatures invariant-loop decreases-loop
+mul-curvatures : tie.Need-offset_bounds-curvatures-k invariant-loop decreases-loop
 mul-curvatures c = omega arith
 
-array-write-curvatures : tie.Need-array-write-curvatures invariant-loop decreases-loop
+array-write-curvatures : tie.Need-bounds-curvatures-k invariant-loop decreases-loop
 array-write-curvatures c = omega arith
 
-loop_less : tie.Need-loop-smaller invariant-loop decreases-loop
+loop_less : tie.Need-loop-k-smaller invariant-loop decreases-loop
 loop_less c = omega arith
 
-loop_again : tie.Need-loop-preserved invariant-loop decreases-loop
+loop_again : tie.Need-loop-k-preserved invariant-loop decreases-loop
 loop_again c =
-    let l = c.before.before.before.loop in
-    let g = c.before.segment-at in
+    let l = c.loop-k in
+    let g = c.segment_at-g in
     let h : l.k < most = omega arith in
-    let back = to_z-of_z {w = w16} {z = g.result.grade} (record { sfits = c.struct_told.given.1.0.1 }) in (
+    let back = to_z-of_z {w = w16} {z = g.result.grade} (record { sfits = c.struct_told-1.given.1.0.1 }) in (
       omega arith,
       fill _ 0 most l.k h _ _ l.invariant.1 (ap (λ x. x.start) g.ensures),
       fill _ (pos 0) most l.k h _ _ l.invariant.2 (back ∙ ap (λ x. x.grade) g.ensures),
@@ -87,8 +87,8 @@ loop_again c =
 
 returns : tie.Need-returns invariant-loop decreases-loop
 returns c =
-    let l = c.before.loop in
-    let n = c.before.before.records in
+    let l = c.loop-k in
+    let n = c.records-count in
     let e : l.k ≡ n.result = omega arith in
     whole _ n.result n.ensures _ _ _
     (l.invariant.1 ∙ ap (filled _ 0 most) e)

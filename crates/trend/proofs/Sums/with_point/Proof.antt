@@ -19,25 +19,25 @@ small {s} {t} {p} h timely word =
 after : (c : tie.Start) → Small (with_point c.args.self c.args.t c.args.p)
 after c = small c.requires.0 c.requires.1 (omega arith)
 
-add-t6 : tie.Need-overflow-add-t6
+add-t6 : tie.Need-overflow_add-result
 add-t6 c = search rules
 
-add-t7 : tie.Need-overflow-add-t7
+add-t7 : tie.Need-overflow_add-result-2
 add-t7 c = search rules
 
-mul-t8 : tie.Need-overflow-mul-t8
+mul-t8 : tie.Need-overflow_mul-result
 mul-t8 c = omega (arith, after c.before.before)
 
-add-t9 : tie.Need-overflow-add-t9
+add-t9 : tie.Need-overflow_add-result-3
 add-t9 c = omega (arith, after c.before.before.before)
 
-add-t10 : tie.Need-overflow-add-t10
+add-t10 : tie.Need-overflow_add-result-4
 add-t10 c = search rules
 
-mul-t11 : tie.Need-overflow-mul-t11
+mul-t11 : tie.Need-overflow_mul-result-2
 mul-t11 c = omega (arith, after c.before.before.before.before)
 
-add-t12 : tie.Need-overflow-add-t12
+add-t12 : tie.Need-overflow_add-result-5
 add-t12 c = omega (arith, after c.before.before.before.before.before)
 
 returns : tie.Need-returns

@@ -12,31 +12,31 @@ use borrow.Author.Rules.{rules}
 use Rattle.update.proofs.states.fall_or_hold.Statement.{statement}
 use Rattle.update.proofs.states.fall_or_hold.Tie as tie
 
-fallen_is : (c : tie.After-fallen-in-service) → let start = c.before.before.args in
-    c.fallen-in-service.result ≡ fall_in_service start.k (level_of start.k start.r) start.r.elapsed
+fallen_is : (c : tie.After-fallen_in_service-fallen) → let start = c.args in
+    c.fallen_in_service-fallen.result ≡ fall_in_service start.k (level_of start.k start.r) start.r.elapsed
 fallen_is c =
-    let start = c.before.before.args in
-    c.fallen-in-service.ensures ∙ ap (λ (level : ℕ). fall_in_service start.k level start.r.elapsed) c.before.higher.ensures
+    let start = c.args in
+    c.fallen_in_service-fallen.ensures ∙ ap (λ (level : ℕ). fall_in_service start.k level start.r.elapsed) c.higher-level.ensures
 
-fallen_requires : tie.Need-fallen-in-service-requires
-fallen_requires c κs = rw c.higher.ensures c.before.requires
+fallen_requires : tie.Need-fallen_in_service-fallen-requires
+fallen_requires c κs = rw c.higher-level.ensures c.requires
 
-returns : tie.Need-returns
+returns : tie.Need-returns-then-level-fallen
 unfolding fall_or_hold
 returns c =
-    let start = c.before.before.before.before.args in
+    let start = c.args in
     let fallen = fallen_is c.before.before in
     let e = ap (λ (k : Air). k.a) fallen in
-    let h : level_of start.k start.r < (fall_in_service start.k (level_of start.k start.r) start.r.elapsed).a = omega (arith, c.before.before.before.higher.ensures) in
+    let h : level_of start.k start.r < (fall_in_service start.k (level_of start.k start.r) start.r.elapsed).a = omega (arith, c.higher-level.ensures) in
     rw (lt-leb _ _ h) fallen
 
-returns-2 : tie.Need-returns-2
+returns-2 : tie.Need-returns
 unfolding fall_or_hold
 returns-2 c =
-    let start = c.before.before.before.before.args in
+    let start = c.args in
     let fallen = fallen_is c.before.before in
     let e = ap (λ (k : Air). k.a) fallen in
-    let h : (fall_in_service start.k (level_of start.k start.r) start.r.elapsed).a ≤ level_of start.k start.r = omega (arith, c.before.before.before.higher.ensures) in
+    let h : (fall_in_service start.k (level_of start.k start.r) start.r.elapsed).a ≤ level_of start.k start.r = omega (arith, c.higher-level.ensures) in
     rw (le-leb _ _ h) (ap (λ (k : Air). with_hold (with_state k HoldingService) start.r.front) fallen)
 
 pub fall_or_hold_spec : {M : Type 1} → statement M

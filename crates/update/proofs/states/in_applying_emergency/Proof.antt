@@ -12,23 +12,23 @@ use borrow.Author.Rules.{rules}
 use Rattle.update.proofs.states.in_applying_emergency.Statement.{statement}
 use Rattle.update.proofs.states.in_applying_emergency.Tie as tie
 
-fallen-in-emergency-requires : tie.Need-fallen-in-emergency-requires
+fallen-in-emergency-requires : tie.Need-fallen_in_emergency-fallen-requires
 fallen-in-emergency-requires c κs = search rules
 
-returns : tie.Need-returns
+returns : tie.Need-returns-then-k-fallen
 unfolding in_applying_emergency
 returns c =
-    let start = c.before.before.before.before.args in
-    let fallen = c.before.before.before.fallen-in-emergency.ensures in
+    let start = c.args in
+    let fallen = c.fallen_in_emergency-fallen.ensures in
     let e = ap (λ (k : Air). k.a) fallen in
     let h : start.k.equalization < (fall_in_emergency start.k start.r.elapsed).a = omega arith in
     rw (lt-leb _ _ h) fallen
 
-returns-2 : tie.Need-returns-2
+returns-2 : tie.Need-returns
 unfolding in_applying_emergency
 returns-2 c =
-    let start = c.before.before.before.before.args in
-    let fallen = c.before.before.before.fallen-in-emergency.ensures in
+    let start = c.args in
+    let fallen = c.fallen_in_emergency-fallen.ensures in
     let e = ap (λ (k : Air). k.a) fallen in
     let h : (fall_in_emergency start.k start.r.elapsed).a ≤ start.k.equalization = omega arith in
     rw (le-leb _ _ h) (ap (λ (k : Air). with_state k HoldingEmergency) fallen)

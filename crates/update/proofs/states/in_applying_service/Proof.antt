@@ -6,17 +6,17 @@ use borrow.Author.Rules.{rules}
 use Rattle.update.proofs.states.in_applying_service.Statement.{statement}
 use Rattle.update.proofs.states.in_applying_service.Tie as tie
 
-returns : tie.Need-returns
+returns : tie.Need-returns-then-r
 unfolding in_applying_service
-returns c = c.applying.ensures ∙ passed _ _ _ c.before.if1.true
+returns c = c.applying.ensures ∙ passed _ _ _ c.if-r.true
 
-returns-2 : tie.Need-returns-2
+returns-2 : tie.Need-returns-then-r-2
 unfolding in_applying_service
-returns-2 c = c.charging.ensures ∙ passed _ _ _ c.before.if2.true ∙ failed _ _ _ c.before.before.if1.false
+returns-2 c = c.charging.ensures ∙ passed _ _ _ c.if-r-2.true ∙ failed _ _ _ c.if-r.false
 
-returns-3 : tie.Need-returns-3
+returns-3 : tie.Need-returns-else-r-2
 unfolding in_applying_service
-returns-3 c = c.fall-or-hold.ensures ∙ failed _ _ _ c.before.if2.false ∙ failed _ _ _ c.before.before.if1.false
+returns-3 c = c.fall_or_hold.ensures ∙ failed _ _ _ c.if-r-2.false ∙ failed _ _ _ c.if-r.false
 
 pub in_applying_service_spec : {M : Type 1} → statement M
 in_applying_service_spec = tie.close (tie.spec (λ c κs. search rules) (λ c κs. search rules) (λ c κs. search rules) returns returns-2 returns-3)

@@ -8,17 +8,17 @@ use borrow.Author.Rules.{rules}
 use Rattle.update.proofs.states.in_charging.Statement.{statement}
 use Rattle.update.proofs.states.in_charging.Tie as tie
 
-returns : tie.Need-returns
+returns : tie.Need-returns-then-r
 unfolding in_charging
-returns c = c.applying.ensures ∙ passed _ _ _ c.before.if1.true
+returns c = c.applying.ensures ∙ passed _ _ _ c.if-r.true
 
-returns-2 : tie.Need-returns-2
+returns-2 : tie.Need-returns
 unfolding in_charging
 returns-2 c =
-    let start = c.before.before.before.args in
+    let start = c.args in
     c.recharged.ensures
-    ∙ ap (λ (hold : ℕ). recharged start.c (with_hold start.k hold) start.r) c.before.higher.ensures
-    ∙ failed _ _ _ c.before.before.if1.false
+    ∙ ap (λ (hold : ℕ). recharged start.c (with_hold start.k hold) start.r) c.higher.ensures
+    ∙ failed _ _ _ c.if-r.false
 
 pub in_charging_spec : {M : Type 1} → statement M
 in_charging_spec = tie.close (tie.spec (λ c κs. search rules) returns (λ c κs. search rules) (λ c κs. search rules) returns-2)

@@ -6,13 +6,13 @@ use borrow.Author.Rules.{rules}
 use Rattle.update.proofs.states.in_holding_emergency.Statement.{statement}
 use Rattle.update.proofs.states.in_holding_emergency.Tie as tie
 
-returns : tie.Need-returns
+returns : tie.Need-returns-then-r
 unfolding in_holding_emergency
-returns c = c.charging.ensures ∙ passed _ _ _ c.before.if1.true
+returns c = c.charging.ensures ∙ passed _ _ _ c.if-r.true
 
-returns-2 : tie.Need-returns-2
+returns-2 : tie.Need-returns-else-r
 unfolding in_holding_emergency
-returns-2 c = failed _ _ _ c.if1.false
+returns-2 c = failed _ _ _ c.if-r.false
 
 pub in_holding_emergency_spec : {M : Type 1} → statement M
 in_holding_emergency_spec = tie.close (tie.spec (λ c κs. search rules) returns returns-2)

@@ -10,26 +10,26 @@ use borrow.Author.Rules.{rules}
 use Rattle.update.proofs.states.recharged.Statement.{statement}
 use Rattle.update.proofs.states.recharged.Tie as tie
 
-returns : tie.Need-returns
+returns : tie.Need-returns-then-r-k
 unfolding recharged
-returns c = rw (le-leb _ _ c.if1.true) refl
+returns c = rw (le-leb _ _ c.if-r-k.true) refl
 
-most : (c : tie.After-struct-known5) → let start = c.before.before.before.before.before.before.args in start.c.recharge * start.r.elapsed ≤ 65535 * 4294967295
+most : (c : tie.After-struct_known-5-1) → let start = c.args in start.c.recharge * start.r.elapsed ≤ 65535 * 4294967295
 most c =
-    let start = c.before.before.before.before.before.before.args in
+    let start = c.args in
     let recharge : start.c.recharge ≤ 65535 = omega arith in
     let elapsed : start.r.elapsed ≤ 4294967295 = omega arith in
     mul-le-mul recharge elapsed
 
-mul-gained : tie.Need-overflow-mul-gained
+mul-gained : tie.Need-overflow_mul-gained
 mul-gained c = omega (arith, most c)
 
-add-gained : tie.Need-overflow-add-gained
+add-gained : tie.Need-overflow_add-gained
 add-gained c = omega (arith, most c)
 
-returns-2 : tie.Need-returns-2
+returns-2 : tie.Need-returns
 unfolding recharged
-returns-2 c = rw (lt-leb _ _ c.before.before.before.before.before.if1.false) (ap (with_a c.before.before.before.before.before.before.before.before.args.k) c.lesser.ensures)
+returns-2 c = rw (lt-leb _ _ c.if-r-k.false) (ap (with_a c.args.k) c.lesser.ensures)
 
 pub recharged_spec : {M : Type 1} → statement M
 recharged_spec =

@@ -31,24 +31,24 @@ module _ (h : LongHand) (pair : ℕ) where
     none e l = rw e (omega arith)
 
 -- from where the digit is known, the function's start
-abbrev start : tie.Joined1 → tie.Start
+abbrev start : tie.Joined-trial-rest → tie.Start
 start c = c.before.before.before
 
-right : (c : tie.Joined1) → Right (start c).args.self (start c).args.pair c.if1.digit
+right : (c : tie.Joined-trial-rest) → Right (start c).args.self (start c).args.pair c.if-trial-rest.digit
 right c =
     let s = start c in
     ⊎_elim
-    (λ w. one s.args.self s.args.pair s.pre w.1 (omega arith))
-    (λ w. none s.args.self s.args.pair s.pre w.1 (omega arith))
-    c.if1.branch
+    (λ w. one s.args.self s.args.pair s.requires w.digit-is (omega arith))
+    (λ w. none s.args.self s.args.pair s.requires w.digit-is (omega arith))
+    c.if-trial-rest.branch-raw
 
-add_root : tie.Need-overflow-add-t9
+add_root : tie.Need-overflow_add-result
 add_root c = omega (arith, (right c.before.before).binary)
 
-mul_rest : tie.Need-overflow-mul-t10
+mul_rest : tie.Need-overflow_mul-result-2
 mul_rest c = omega (arith, (right c.before.before).within)
 
-sub_rest : tie.Need-overflow-sub-t11
+sub_rest : tie.Need-overflow_sub-result
 sub_rest c = omega (arith, (right c.before.before).within)
 
 returns : tie.Need-returns
