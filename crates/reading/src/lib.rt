@@ -61,6 +61,7 @@ fn is_kept(heard: Heard, time: u32) -> bool
 }
 
 // What a lost rear counts as.
+#[tactic(auto, unfolding(crate::specs::Readings::lost_rear))]
 fn lost_rear(k: Brake, time: u32, front: u16) -> u16
     ensures { result ≡ lost_rear k.choice k time front }
 {

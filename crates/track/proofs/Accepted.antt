@@ -41,10 +41,10 @@ module _ (p : List ℕ) (n : ℕ) (h : judge_profile p ≡ (Accepted, n)) where
 
   lay_rising : Rising (lay_of p)
   unfolding lay_of
-  lay_rising = record { starts = λ k l. rises k (omega (arith, (judged_lawful p n h).1)) (omega arith) }
+  lay_rising = record { starts = λ k l. omega (arith, rises k (omega (arith, (judged_lawful p n h).1)) (omega arith)) }
 
   pub lay_gentle : Gentle (lay_of p)
-  lay_gentle = record { grade = λ k. (lay_ranged k).grade; curvature = λ k. (lay_ranged k).curvature; rising = lay_rising }
+  lay_gentle = record { grade = λ k. omega (arith, (lay_ranged k).grade); curvature = λ k. (lay_ranged k).curvature; rising = lay_rising }
 
   pub lay_small : Small (lay_of p)
   lay_small = record {

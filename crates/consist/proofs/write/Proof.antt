@@ -114,12 +114,13 @@ returns-3 c =
     ap told (sym (write_is _ (lent weight) false false true _ (past_range (ranged weight)) (past_weight weight) o refl))
 
 returns-4 : tie.Need-returns-in_default-unless-3
+unfolding no_room
 returns-4 c =
-    let broken = c in
-    let room = broken.before.before.before in
-    let weight = weighed room in
-    let b = sym (ap not broken.sound_blocks.ensures) ∙ off_unless _ (sym broken.in_default-unless-3.is ∙ broken.unless-4.ensures) in
-    ap told (sym (write_is _ (lent weight) false false false true (past_range (ranged weight)) (past_weight weight) (past_room room) b))
+    let r = sym (ap not c.in_range.ensures) ∙ on_unless _ (sym c.in-On.is ∙ c.unless.ensures) in
+    let w = sym c.too_light.ensures ∙ on_unless _ (sym c.in-On-unless.is ∙ c.unless-2.ensures) in
+    let o = sym (ap (ltb (length c.args.out.now)) c.size.ensures) ∙ on_unless _ (sym c.in-On-unless-2.is ∙ c.unless-3.ensures) in
+    let b = sym (ap not c.sound_blocks.ensures) ∙ off_unless _ (sym c.in_default-unless-3.is ∙ c.unless-4.ensures) in
+    ap told (sym (write_is _ c.args.out.now false false false true r w o b))
 
 returns-5 : tie.Need-returns
 returns-5 c =

@@ -30,7 +30,7 @@ returns c =
 returns-2 : tie.Need-returns-in_default-unless
 unfolding no_room
 returns-2 c =
-    ap told (sym (write_is _ _ false true (past_range c.before.before) (off_unless _ (sym c.in_default-unless.is ∙ c.unless-2.ensures))))
+    ap told (sym (write_is _ _ false true (sym c.out_of_range.ensures ∙ on_unless _ (sym c.in-On.is ∙ c.unless.ensures)) (off_unless _ (sym c.in_default-unless.is ∙ c.unless-2.ensures))))
 
 returns-3 : tie.Need-returns
 unfolding no_room bytes_of

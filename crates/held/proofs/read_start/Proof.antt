@@ -17,11 +17,6 @@ use Rattle.held.proofs.read_start.Tie as tie
 no_bytes : read_session [] ≡ refused_with NoSession
 no_bytes = read_is [] true (too_short [] (omega arith))
 
-returns : tie.Need-returns-then-s-lt-MOST
-returns c =
-    let s = c.args.s.now in
-    c.refused.ensures ∙ sym (ap read_told (ap read_session (no_buffer s (omega arith)) ∙ no_bytes))
-
 returns-2 : tie.Need-returns
 returns-2 c =
     let sized = c.before.before in
@@ -33,6 +28,8 @@ pub read_start_spec : {M : Type 1} → statement M
 read_start_spec =
     tie.close
     (tie.spec
-    (λ c κs. search rules) returns
+    (λ c κs. search rules)
+    (λ c.
+    let s = c.args.s.now in c.refused.ensures ∙ sym (ap read_told (ap read_session (no_buffer s (omega arith)) ∙ no_bytes)))
     (λ c. sym (length-take-le size c.args.s.now (omega arith))) (λ c κs. search rules)
     (λ c. sym (length-take-le _ c.args.s.now (omega arith))) (λ c κs. search rules) returns-2)

@@ -6,10 +6,11 @@ use native.Mathlib.Omega.{arith}
 use borrow.Author.Tests.{le-leb, lt-leb}
 use borrow.Author.Rules.{rules}
 use Rattle.sample.specs.declared.RearPressure.{RearPressure}
-use Rattle.sample.specs.declared.RearPressure.TheVariants.{Present}
+use Rattle.sample.specs.declared.RearPressure.TheVariants.{Present, Lost}
 use Rattle.learn.specs.declared.Learner.{Learner}
 use Rattle.learn.specs.declared.Stage.TheVariants.{Done}
 use Rattle.learn.specs.declared.Shown.{Shown}
+use Rattle.learn.specs.declared.Lesson.{Lesson}
 use Rattle.learn.specs.Stage.{bare}
 use Rattle.learn.specs.Learn.{timer, is_over}
 use Rattle.learn.specs.Kept.{heard_in, without, rear_to, timed_to}
@@ -29,32 +30,13 @@ taken : (l : Learner) (s : Shown) (p : ℕ) → s.rear ≡ Present p → is_over
 unfolding timed_to
 taken l s p e none = failed _ _ _ none ∙ ap (λ (rear : RearPressure). cond (is_over s l.since) (without (bare Done)) (rear_to l s rear)) (sym e)
 
-returns : tie.Need-returns-then-timer-ge600
+late : {r : Lesson} (l : Learner) (s : Shown) → r ≡ without (bare Done) → is_over s l.since ≡ true → r ≡ timed_to l s
 unfolding timed_to
-returns c =
-    let test = c.before.before in
-    let start = test.args in
-    c.without.ensures ∙ rw c.bare.ensures (passed _ _ _ (over start.s start.l.since _ test.timer.ensures (omega (arith, test.if-timer-ge600.true))))
+late l s e o = e ∙ passed _ _ _ o
 
-heard-requires : tie.Need-heard-requires
-heard-requires c κs =
-    let test = c.before in
-    (test.requires, omega (arith, test.if-timer-ge600.false, test.timer.ensures))
-
-returns_2 : tie.Need-returns-in-Present
+lost : {r : Lesson} (l : Learner) (s : Shown) → r ≡ without l → s.rear ≡ Lost → is_over s l.since ≡ false → r ≡ timed_to l s
 unfolding timed_to
-returns_2 c =
-    let test = c.before.before in
-    let start = test.args in
-    let none : is_over start.s start.l.since ≡ false = in_time start.s start.l.since _ test.timer.ensures (omega (arith, test.if-timer-ge600.false)) in
-    c.heard.ensures ∙ taken start.l start.s c.in-Present.p c.in-Present.is none
-
-returns_3 : tie.Need-returns-in-Lost
-unfolding timed_to
-returns_3 c =
-    let test = c.before.before in
-    let start = test.args in
-    c.without-in-Lost.ensures ∙ rw c.in-Lost.is (failed _ _ _ (in_time start.s start.l.since _ test.timer.ensures (omega (arith, test.if-timer-ge600.false))))
+lost l s e rear none = e ∙ rw rear (failed _ _ _ none)
 
 pub timed_spec : {M : Type 1} → statement M
 timed_spec =
@@ -63,10 +45,10 @@ timed_spec =
     (λ c κs. search rules)
     (λ c κs. search rules)
     (λ c κs. search rules)
-    returns
+    (λ c. late c.args.l c.args.s (search rules) (over c.args.s c.args.l.since _ c.timer.ensures (omega arith)))
     (λ c. search rules)
-    heard-requires
+    (λ c κs. (c.requires, omega (arith, c.timer.ensures)))
     (λ c. search rules)
     (λ c κs. search rules)
-    returns_2
-    returns_3)
+    (λ c. c.heard.ensures ∙ taken c.args.l c.args.s c.in-Present.p c.in-Present.is (in_time c.args.s c.args.l.since _ c.timer.ensures (omega arith)))
+    (λ c. lost c.args.l c.args.s (search rules) c.in-Lost.is (in_time c.args.s c.args.l.since _ c.timer.ensures (omega arith))))

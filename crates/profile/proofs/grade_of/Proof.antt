@@ -1,10 +1,10 @@
 -- `profile::grade_of` meets its contract. Assumes nothing.
 use mathlib.Core.Path.{◌≡◌, sym, ◌∙◌}
-use Prim.Native.Nat.{suc, ◌-◌, ◌^◌}
+use Prim.Native.Nat.{ℕ, suc, ◌-◌, ◌^◌, ◌<◌}
 use native.Mathlib.Omega.{arith}
 use lib.IntN.{pos, negsuc, ◌-ℤ◌}
 use mir.Syntax.{w16}
-use mir.Val.{to_z}
+use mir.Val.{SFits, to_z}
 use mir.Facts.{to_z-of_z, to_z_pos}
 use borrow.Author.Tests.{lt-ltb}
 use borrow.Author.Rules.{rules}
@@ -12,24 +12,19 @@ use Rattle.profile.proofs.Grade.{lower_half, upper_half}
 use Rattle.profile.proofs.grade_of.Statement.{statement}
 use Rattle.profile.proofs.grade_of.Tie as tie
 
-cast-result : tie.Need-overflow_cast-result
-cast-result c = search rules
-
-cast-result-2 : tie.Need-overflow_cast-result-else-n-lt1024
-cast-result-2 c = search rules
-
 -- what the code takes away
-less : (c : tie.Else-n-lt1024) → to_z w16 c.args.n -ℤ pos 2048 ≡ negsuc (2 ^ 11 - suc c.args.n)
-less c = rw (to_z_pos w16 {n = c.args.n} (omega arith), lt-ltb c.args.n 2048 c.requires)
+less : (n : ℕ) → n < 2 ^ 11 → to_z w16 n -ℤ pos 2048 ≡ negsuc (2 ^ 11 - suc n)
+less n h = rw (to_z_pos w16 {n = n} (omega arith), lt-ltb n 2048 h)
 
-sub-result : tie.Need-overflow_sub-result
-sub-result c = rw (less c) (record { sfits = omega arith })
-
-returns : tie.Need-returns-then-n-lt1024
-returns c = to_z_pos w16 {n = c.args.n} (omega arith) ∙ sym (lower_half c.args.n c.if-n-lt1024.true)
-
-returns-2 : tie.Need-returns-else-n-lt1024
-returns-2 c = to_z-of_z (sub-result c) ∙ less c ∙ sym (upper_half c.args.n c.if-n-lt1024.false c.requires)
+less_fits : (n : ℕ) → n < 2 ^ 11 → SFits w16 (to_z w16 n -ℤ pos 2048)
+less_fits n h = rw (less n h) (record { sfits = omega arith })
 
 pub grade_of_spec : {M : Type 1} → statement M
-grade_of_spec = tie.close (tie.spec cast-result cast-result-2 sub-result returns returns-2)
+grade_of_spec =
+    tie.close
+    (tie.spec
+    (λ c. search rules)
+    (λ c. search rules)
+    (λ c. less_fits c.args.n c.requires)
+    (λ c. to_z_pos w16 {n = c.args.n} (omega arith) ∙ sym (lower_half c.args.n (omega arith)))
+    (λ c. to_z-of_z (less_fits c.args.n c.requires) ∙ less c.args.n c.requires ∙ sym (upper_half c.args.n (omega arith) c.requires)))

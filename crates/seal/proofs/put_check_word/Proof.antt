@@ -1,4 +1,7 @@
 -- `seal::put_check_word` meets its contract. Assumes nothing.
+use mathlib.Core.Path.{◌≡◌}
+use mathlib.Core.List.{List}
+use Prim.Native.Nat.{ℕ, ◌<◌}
 use native.Mathlib.Omega.{arith}
 use lib.ListN.{length, length-take}
 use borrow.Author.Tests.{lt-leb}
@@ -8,9 +11,9 @@ use borrow.Author.Rules.{rules}
 use Rattle.seal.proofs.put_check_word.Statement.{statement}
 use Rattle.seal.proofs.put_check_word.Tie as tie
 
-returns : tie.Need-returns-then-out-lt-SIZE
+short : (out : List ℕ) → length out < 4 → out ≡ resealed out
 unfolding resealed
-returns c = rw (lt-leb 4 (length c.args.out.now) c.if-out-lt-SIZE.true)
+short out h = rw (lt-leb 4 (length out) h)
 
 returns-2 : tie.Need-returns
 returns-2 c =
@@ -21,7 +24,7 @@ pub put_check_word_spec : {M : Type 1} → statement M
 put_check_word_spec =
     tie.close
     (tie.spec
-    returns
+    (λ c. short c.args.out.now (omega arith))
     (λ c. search rules)
     (λ c. search rules)
     (λ c. simp length-take (omega arith))

@@ -50,7 +50,7 @@ sub-grade-over : tie.Need-overflow_sub-head
 sub-grade-over c = let s = c.before.before.before.before.before in op_fits ◌-ℤ◌ (head_holds s) (rear_holds s) (gain_fits s)
 
 grade-over-requires : tie.Need-grade_over-requires
-grade-over-requires c κs = let s = c.before.before.before.before.before in rw (gained s) (gain_most s)
+grade-over-requires c κs = let s = c.before.before.before.before.before in grind (arith, gained s, gain_most s)
 
 returns : tie.Need-returns-then-length-eq0
 returns c = let a = c.args in none a.rear a.head a.length c.if-length-eq0.true

@@ -1,6 +1,6 @@
 -- `trend::result` meets its contract. Assumes nothing.
 use mathlib.Core.Path.{◌≡◌}
-use mathlib.Core.Bool.{Bool, true}
+use mathlib.Core.Bool.{Bool, true, false}
 use native.Mathlib.Omega.{arith}
 use lib.IntN.{ℤ, pos}
 use lib.Signed.{lt_z}
@@ -45,18 +45,15 @@ module _ (c : tie.After-divisor-y) where
 time-requires : tie.Need-time-requires
 time-requires c κs =
     let d = c.before in
-    rw ((x_holds d).reads, (y_holds d).reads) ((start d).requires.1, fraction d (tested d {b = true} c.if-y-gt0.true))
-
-returns : tie.Need-returns-then-y-gt0
-unfolding result_of
-returns c =
-    let d = c.before.before in
-    rw (tested d c.if-y-gt0.true, c.time.ensures, (x_holds d).reads, (y_holds d).reads)
-
-returns-2 : tie.Need-returns-else-y-gt0
-unfolding result_of
-returns-2 c = rw (tested c.before c.if-y-gt0.false)
+    rw ((x_holds d).reads, (y_holds d).reads) ((start d).requires.1, fraction d (tested d {b = true} (search rules)))
 
 pub result_spec : {M : Type 1} → statement M
+unfolding result_of
 result_spec =
-    tie.close (tie.spec (λ c κs. search rules) (λ c κs. search rules) time-requires returns returns-2)
+    tie.close
+    (tie.spec
+    (λ c κs. search rules)
+    (λ c κs. search rules)
+    time-requires
+    (λ c. let d = c.before.before in rw (tested d {b = true} (search rules), c.time.ensures, (x_holds d).reads, (y_holds d).reads))
+    (λ c. rw (tested c.before {b = false} (search rules))))

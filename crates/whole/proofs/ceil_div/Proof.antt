@@ -40,18 +40,17 @@ div-result c = search rules
 add-result : tie.Need-overflow_add-result
 add-result c = let s = c.before.before in omega (arith, room s.args.a s.args.b (omega arith) (omega arith))
 
-div-result-2 : tie.Need-nonzero_div-result-else-a-b-gt0
-div-result-2 c = search rules
-
 returns : tie.Need-returns-then-b-eq0
 returns c = none c.args.a c.args.b c.if-b-eq0.true
 
-returns-2 : tie.Need-returns-then-a-b-gt0
-returns-2 c = let s = c.before.before in over s.args.a s.args.b (omega arith) (omega arith)
-
-returns-3 : tie.Need-returns-else-a-b-gt0
-returns-3 c = let s = c.before.before in exact s.args.a s.args.b (omega arith) (omega arith)
-
 pub ceil_div_spec : {M : Type 1} → statement M
 ceil_div_spec =
-    tie.close (tie.spec rem-if2 div-result add-result div-result-2 returns returns-2 returns-3)
+    tie.close
+    (tie.spec
+    rem-if2
+    div-result
+    add-result
+    (λ c. search rules)
+    returns
+    (λ c. over c.args.a c.args.b (omega arith) (omega arith))
+    (λ c. exact c.args.a c.args.b (omega arith) (omega arith)))

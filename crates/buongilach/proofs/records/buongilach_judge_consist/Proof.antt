@@ -4,7 +4,7 @@ use Rattle.buongilach.proofs.records.buongilach_judge_consist.Statement.{stateme
 use Rattle.buongilach.proofs.records.buongilach_judge_consist.Tie as tie
 
 returns : tie.Need-returns
-returns c = c.consist.ensures
+returns c = search rules
 
 pub buongilach_judge_consist_spec : {M : Type 1} → statement M
 buongilach_judge_consist_spec = tie.close (tie.spec (λ c κs. search rules) returns)

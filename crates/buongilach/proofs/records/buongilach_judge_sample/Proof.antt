@@ -4,7 +4,7 @@ use Rattle.buongilach.proofs.records.buongilach_judge_sample.Statement.{statemen
 use Rattle.buongilach.proofs.records.buongilach_judge_sample.Tie as tie
 
 returns : tie.Need-returns
-returns c = c.sample.ensures
+returns c = search rules
 
 pub buongilach_judge_sample_spec : {M : Type 1} → statement M
 buongilach_judge_sample_spec = tie.close (tie.spec (λ c κs. search rules) returns)

@@ -43,7 +43,12 @@ right c =
     c.if-trial-rest.branch-raw
 
 add_root : tie.Need-overflow_add-result
-add_root c = omega (arith, (right c.before.before).binary)
+add_root c =
+    let s = c.args.self in
+    let pair = c.args.pair in
+    let right : Right s pair c.if-trial-rest.digit =
+    ⊎_elim (λ w. one s pair c.requires w.digit-is (omega arith)) (λ w. none s pair c.requires w.digit-is (omega arith)) c.if-trial-rest.branch-raw in
+    omega (arith, right.binary)
 
 mul_rest : tie.Need-overflow_mul-result-2
 mul_rest c = omega (arith, (right c.before.before).within)
@@ -52,7 +57,12 @@ sub_rest : tie.Need-overflow_sub-result
 sub_rest c = omega (arith, (right c.before.before).within)
 
 returns : tie.Need-returns
-returns c = (right c.before.before).worked
+returns c =
+    let s = c.args.self in
+    let pair = c.args.pair in
+    let right : Right s pair c.if-trial-rest.digit =
+    ⊎_elim (λ w. one s pair c.requires w.digit-is (omega arith)) (λ w. none s pair c.requires w.digit-is (omega arith)) c.if-trial-rest.branch-raw in
+    right.worked
 
 pub turn_spec : {M : Type 1} → statement M
 turn_spec =
