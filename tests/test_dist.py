@@ -1,5 +1,6 @@
 """Tests of the release tool, on a small repository with a stand-in for rt and git."""
 
+import hashlib
 import json
 import os
 import shutil
@@ -15,8 +16,10 @@ dist = load("dist")
 COMMIT = "5" * 40
 CRATES = ("# numbers\nbits:\nwhole: bits\nbuongilach: bits whole\nbuongilach_c staticlib: buongilach\n"
           "enforce: buongilach itoa ryu # a program\n")
-GATE = ("commit %s\ncompared 600 feeds, 9 lines (8 accepted, 1 refused)\nno difference\n"
-        "hostile: 12 calls, 0 faults\n40 passed, 0 failed\n" % COMMIT)
+ARCHIVE = "archive\n"
+MADE = "%s  target/staticlib/libbuongilach.a" % hashlib.sha256(ARCHIVE.encode()).hexdigest()
+GATE = ("commit %s\n%s\ncompared 600 feeds, 9 lines (8 accepted, 1 refused)\nno difference\n"
+        "hostile: 12 calls, 0 faults\n40 passed, 0 failed\n" % (COMMIT, MADE))
 TOOL = "#!/bin/sh\n"
 
 
@@ -38,7 +41,7 @@ class Dist(unittest.TestCase):
         self.write("include/buongilach.h", "header\n")
         self.write("examples/case.c", "program\n")
         self.write("examples/mounted.c", "program\n")
-        self.write("target/staticlib/libbuongilach.a", "archive\n")
+        self.write("target/staticlib/libbuongilach.a", ARCHIVE)
         self.write("crates/bits/must-fail/a.edit", "")
         self.write("crates/bits/must-fail/b.edit", "")
         self.write("crates/bits/must-fail/notes", "")
@@ -121,6 +124,11 @@ class Dist(unittest.TestCase):
             self.write("gate.log", words)
             self.assert_unfit("make check", self.release)
             self.assertIsNone(self.listed(self.release(draft=True))["tested"]["gate"])
+
+    def test_an_archive_that_the_gate_did_not_make_makes_only_a_draft(self):
+        self.write("target/staticlib/libbuongilach.a", "another\n")
+        self.assert_unfit("is not the one that the gate made", self.release)
+        self.assertTrue(self.listed(self.release(draft=True))["draft"])
 
     def test_changed_files_make_only_a_draft(self):
         self.tool("git", "[ \"$1\" = rev-parse ] && echo %s || echo ' M src'\n" % COMMIT)

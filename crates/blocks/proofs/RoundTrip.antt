@@ -1,7 +1,7 @@
 -- The round trip of the blocks' records. Assumes nothing.
 use mathlib.Core.Path.{◌≡◌, refl, sym, ap, ap₂, ◌∙◌}
 use mathlib.Core.Bool.{Bool, true, false, not, ◌&&◌}
-use mathlib.Core.List.{List, [], ◌∷◌}
+use mathlib.Core.List.{List}
 use Prim.Native.Nat.{ℕ, zero, suc, ◌*◌, ◌%◌, ◌≤◌, ◌<◌, ◌^◌, min}
 use native.Mathlib.Nat.{div-add-mod, mul-mod_right}
 use native.Mathlib.Omega.{arith}

@@ -1,7 +1,7 @@
 -- Document 02's R-1: "A consist may be followed by 1 to 64 blocks, each with length and weight of at least 1, head end first, summing to the consist's
 -- length and weight." "Each block is two bit fields, length 15 and weight 15, with two spare zero bits." Definitions only.
 use Rattle.std.specs.Prelude.{ℕ, zero, suc, ◌+◌, ◌/◌, ◌%◌, min, List, [], ◌∷◌, ◌++◌, Bool, not, ◌&&◌, ◌||◌, cond, length, get_or, replicate, leb, ltb, eqb}
-use Rattle.bits.specs.Bytes.{num, fields_in, bytes_from}
+use Rattle.bits.specs.Bytes.{fields_in, bytes_from}
 use Rattle.bits.specs.Tables.{up_to}
 use Rattle.table.specs.Table.{every, part_at}
 use Rattle.blocks.specs.declared.Blocks.{Blocks}

@@ -1,5 +1,5 @@
 -- What is held: as the paper lists it, and a new session's brake. Definitions only.
-use Rattle.std.specs.Prelude.{ℕ, Bool, true, false, ◌&&◌, List, [], ◌∷◌, eqb}
+use Rattle.std.specs.Prelude.{ℕ, Bool, false, ◌&&◌, List, [], ◌∷◌, eqb}
 use Rattle.bits.specs.Fields.{bit}
 use Rattle.consist.specs.declared.Consist.{Consist}
 use Rattle.brake.specs.declared.State.TheVariants.{Charged}

@@ -18,7 +18,7 @@ use Rattle.refusal.specs.declared.Refusal.{Refusal}
 use Rattle.refusal.specs.declared.Verdict.{Verdict}
 use Rattle.refusal.specs.declared.Verdict.TheVariants.{Accepted, Refused}
 use Rattle.refusal.specs.Lowest.{lowest}
-use Rattle.refusal.specs.Number.{number_of_verdict, told}
+use Rattle.refusal.specs.Number.{number_of_verdict}
 use Rattle.refusal.specs.Written.{no_room, written}
 use Rattle.refusal.specs.declared.Refusal.TheVariants.{NoSession, WrongLength, NoRoom, BrokenBlocks}
 use Rattle.refusal.proofs.Order.{last_passed}

@@ -22,7 +22,6 @@ use Rattle.learn.proofs.Sound.{learnt_in_range}
 use Rattle.sampling.specs.Learning.{in_force}
 use Rattle.sampling.specs.Sample.{sample_in}
 use Rattle.sampling.specs.Laws.{Lent}
-use Rattle.demands.specs.Machine.{Call}
 use Rattle.demands.specs.History.{Begun, Course, course_of, shown_to, wrong_time_after, nothing}
 use Rattle.demands.specs.Learnt.{Learns, RunsLearn}
 use Rattle.demands.proofs.Quiet.{Timely, TimelyIn, timely_after}

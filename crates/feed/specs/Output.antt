@@ -95,8 +95,8 @@ printed Accepted (Bytes n) Broken lines = refusal_text BrokenTargets
 -- otherwise the samples' lines, and where there are no samples nothing
 printed Accepted (Bytes n) (Bytes m) lines = lines
 
--- The whole output of a feed, under a choice (02, R-7), which its bytes do not carry. That `run` prints it is not proved, as a descriptor's contents are in no contract: `run` is compared with the second
--- program.
+-- The whole output of a feed, under a choice (02, R-7), which its bytes do not carry. That `run` prints it is not proved, as what standard input gives is in no
+-- contract: `run` is compared with the second program.
 unfoldable pub output_of : Choice → List ℕ → List ℕ
 output_of choice feed =
     let alone = open_of none_open (consist_bytes feed) choice in

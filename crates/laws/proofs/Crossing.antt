@@ -7,11 +7,11 @@ use native.Mathlib.Nat.{le_refl}
 use native.Mathlib.Omega.{arith}
 use lib.Dec.{leb}
 use borrow.Author.Tests.{leb-true, leb-false}
-use Rattle.record.specs.Location.{farthest, no_stop}
+use Rattle.record.specs.Location.{no_stop}
 use Rattle.consist.specs.declared.Consist.{Consist}
 use Rattle.step.specs.declared.Run.{Run}
 use Rattle.step.specs.Step.{steps_most, Ground, step_of}
-use Rattle.walk.specs.Walk.{Arrival, at, never, arrival_by, stays, walk_to, start, arrival_for, location_of}
+use Rattle.walk.specs.Walk.{Arrival, at, never, arrival_by, stays, walk_to, start, arrival_for}
 use Rattle.walk.proofs.Equations.{stays_ended, stays_cut, stays_above, stays_on, walk_at, walk_cut, walk_on}
 use Rattle.walk.proofs.Reach.{NoFurther, verdict_no_further}
 use Rattle.judge.specs.Cases.{NoneIsBeyond}

@@ -20,7 +20,7 @@ use Rattle.blocks.specs.Blocks as blocks
 use Rattle.blocks.proofs.Bytes.{length_bytes}
 use Rattle.session.specs.declared.Session.{Session}
 use Rattle.session.specs.Session.{is_open}
-use Rattle.held.specs.Held.{size, most, count_in, behind_for, size_for, front_of, behind_of, bytes_of, fields_at, front_at, behind_at, count_at, record_at, no_session}
+use Rattle.held.specs.Held.{size, most, count_in, behind_for, size_for, front_of, behind_of, bytes_of, fields_at, front_at, behind_at, count_at, record_at}
 use Rattle.laws.specs.HeldDamage.{DamageSeen}
 use Rattle.held.proofs.Sizes.{no_buffer, in_buffer, same_front}
 use Rattle.held.proofs.Answers.{IsRecord, held_open, length-sealed, front_size, behind_size, few}

@@ -34,7 +34,6 @@ use Rattle.consist.proofs.Answers as consist_answers
 use Rattle.consist.proofs.Sound as consist_sound
 use Rattle.brake.specs.State.{state_number, state_of}
 use Rattle.brake.proofs.StateNumbers.{number_most}
-use Rattle.brake.specs.Rear.{choice_number, choice_of, heard_number, heard_of}
 use Rattle.brake.proofs.Told.{state_back}
 use Rattle.brake.proofs.Rear.{choice_back, heard_back, choice_again, heard_again}
 use Rattle.learn.proofs.Stages.{stage_of_number, stage_number_most, number_of_stage}

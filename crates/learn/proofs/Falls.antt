@@ -21,7 +21,7 @@ use Rattle.trend.specs.Falling.{Falls, FallingPoints}
 use Rattle.trend.proofs.Falling.{falling_points}
 use Rattle.learn.specs.declared.Shown.{Shown}
 use Rattle.learn.specs.Learn.{Learning, Lesson, waiting, front_fell, initial, falling, done, is_front_down, timer, is_over, is_rear_down, is_complete, further, first, heard, rear_of, timed, started, in_service, lesson_of}
-use Rattle.learn.specs.Suffices.{FallsTo, FallsOn, Completes, AlwaysLearns}
+use Rattle.learn.specs.Suffices.{FallsTo, FallsOn, AlwaysLearns}
 use Rattle.learn.proofs.Choices.{either}
 
 -- ---- from sample to later sample

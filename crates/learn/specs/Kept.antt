@@ -1,5 +1,5 @@
 -- The same over what is kept: of the points their sums, the last one's t and p. Definitions only; specs/Suffices.antt says that these suffice.
-use Rattle.std.specs.Prelude.{ℕ, ◌+◌, ◌-◌, Bool, ◌&&◌, cond, leb, ltb}
+use Rattle.std.specs.Prelude.{ℕ, ◌-◌, Bool, ◌&&◌, cond, leb, ltb}
 use Rattle.sample.specs.declared.RearPressure.{RearPressure}
 use Rattle.sample.specs.declared.RearPressure.TheVariants.{Present, Lost}
 use Rattle.trend.specs.declared.Sums.{Sums}

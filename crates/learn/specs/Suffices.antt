@@ -1,6 +1,6 @@
 -- The sums suffice, point by point; what is kept stays sound; and points that fall, as those of a run do, always give a result.
 -- Statements; proofs/{Suffices,Sound,Falls}.antt prove them.
-use Rattle.std.specs.Prelude.{◌≡◌, true, List, [], ◌∷◌, ℕ, ◌+◌, ◌-◌, ◌≤◌, ◌<◌, length}
+use Rattle.std.specs.Prelude.{◌≡◌, true, List, ◌∷◌, ℕ, ◌+◌, ◌-◌, ◌≤◌, ◌<◌, length}
 use Rattle.sample.specs.declared.RearPressure.{RearPressure}
 use Rattle.sample.specs.declared.RearPressure.TheVariants.{Present, Lost}
 use Rattle.trend.specs.declared.Learnt.TheVariants.{Time}

@@ -9,10 +9,9 @@ use mir.Syntax.{w8, w32}
 use mir.Val.{Val, vint}
 use base.Logic.{ent, sep, emp, via, emp∗, comm∗, mono_r, fst∗}
 use prog.Memory.{Memory}
-use prog.Machine.{Program, done}
-use prog.Routine.{Routine, Env, step, machine}
-use prog.Wired.{Code, Wired}
-use prog.Linked.{Has, in_program, Has-Wired, machine-Follows}
+use prog.Machine.{done}
+use prog.Routine.{Routine, Env, step}
+use prog.Linked.{Has-Wired}
 use prog.Wp.{run}
 use prog.AdequacyRun.{start_mem}
 use types.Kit.{raw, ◌⊛◌, ◌$◌, ◌∵◌, !, qed, by, move, use1, split, frame}
@@ -211,14 +210,18 @@ call_gives γ has x l fits f =
     (start_Satisfies 𝓤 H 𝓜 l.out others (all_fit l.out f.3.0)
     (fit_both l.sample _ (all_fit l.sample f.0.0) (fit_both l.profile _ (all_fit l.profile f.1.0) (all_fit l.targets f.2.0)))))
 
--- ---- the machine on a program that has the code
-machine_has : (p : Program) (code : Code) → Has (in_program p) code → Wired (machine p) code
-machine_has p = Has-Wired (in_program p) (machine p) (machine-Follows p)
-
 pub code_meets : CodeMeets
 code_meets = record {
-  library_linked = λ p o w s. record { opens = machine_has p buongilach_open.code o; opens_with = machine_has p buongilach_open_with.code w; samples = machine_has p buongilach_sample.code s };
-  program_linked = λ p n o s. record { none = machine_has p session_none.code n; opens = machine_has p session_open.code o; samples = machine_has p session_sample.code s };
+  library_linked = λ look γ f o w s. record {
+    opens = Has-Wired look γ f buongilach_open.code o;
+    opens_with = Has-Wired look γ f buongilach_open_with.code w;
+    samples = Has-Wired look γ f buongilach_sample.code s;
+  };
+  program_linked = λ look γ f n o s. record {
+    none = Has-Wired look γ f session_none.code n;
+    opens = Has-Wired look γ f session_open.code o;
+    samples = Has-Wired look γ f session_sample.code s;
+  };
   is_library = λ γ has z. record { opens = open_gives γ has; opens_with = open_with_gives γ has; samples = sample_gives γ has };
   library_meets = λ γ has m unopened is. record {
     none = unopened;

@@ -2,13 +2,13 @@
 -- The calls are run from the memory with which a run begins, in any environment that has their code, and nothing of the logic is left.
 use Rattle.std.specs.Prelude.{◌≡◌, List, [], ◌∷◌, ◌++◌, map, ℕ, ◌+◌, ◌^◌, ◌<◌, length}
 use Rattle.std.proofs.Math.Option.{some}
-use mir.Syntax.{w8, w32, ty_int}
+use mir.Syntax.{Symbol, w8, w32, ty_int}
 use mir.Val.{Val, vint}
 use prog.Memory.{Memory, load_m}
-use prog.Machine.{Program, done}
-use prog.Routine.{Routine, Env, step, machine}
+use prog.Machine.{done}
+use prog.Routine.{Routine, Env, step}
 use prog.Wired.{Wired}
-use prog.Linked.{Has, in_program}
+use prog.Linked.{Entry, Has, Follows}
 use prog.AdequacyRun.{start_mem}
 use Rattle.refusal.specs.declared.Verdict.{Verdict}
 use Rattle.brake.specs.declared.Choice.{Choice}
@@ -122,11 +122,12 @@ module _ (γ : Env) where
 
 -- ---- there is such a machine, and each meets the contracts
 pub record CodeMeets : Type 0 where
-  -- the machine on a program has that code, where the program has each of these functions, and each that they call, with its own code
-  pub library_linked : (p : Program) → Has (in_program p) buongilach_open.code → Has (in_program p) buongilach_open_with.code
-      → Has (in_program p) buongilach_sample.code → HasLibrary (machine p)
-  pub program_linked : (p : Program) → Has (in_program p) session_none.code → Has (in_program p) session_open.code
-      → Has (in_program p) session_sample.code → HasProgram (machine p)
+  -- what follows a look-up has that code, where the look-up finds each of these functions, and each that they call, with its own code; the machine on a program
+  -- follows what the program has
+  pub library_linked : (look : Symbol → Entry) (γ : Env) → Follows look γ → Has look buongilach_open.code → Has look buongilach_open_with.code
+      → Has look buongilach_sample.code → HasLibrary γ
+  pub program_linked : (look : Symbol → Entry) (γ : Env) → Follows look γ → Has look session_none.code → Has look session_open.code
+      → Has look session_sample.code → HasProgram γ
   -- and wherever that code is
   pub is_library : (γ : Env) → HasLibrary γ → (z : List ℕ) → IsLibrary γ (our_library z)
   pub library_meets : (γ : Env) → HasLibrary γ → (m : Machine (List ℕ) ℕ) → Unopened in_bytes m.none → IsLibrary γ m → library.Meets m

@@ -4,7 +4,7 @@ use Prim.Native.Nat.{ℕ, zero, suc, ◌+◌, ◌-◌, ◌≤◌, ◌<◌}
 use native.Mathlib.Numerals.{add-one}
 use native.Mathlib.Omega.{arith}
 use Rattle.track.specs.declared.Track.{Track}
-use Rattle.track.specs.Track.{at, feet, segments}
+use Rattle.track.specs.Track.{feet, segments}
 use Rattle.track.specs.Rising.{Rising, clamp, start_under, feet_under, FeetClamped}
 
 module _ (t : Track) (rear head : ℕ) (rising : Rising t) (h : rear ≤ head) where

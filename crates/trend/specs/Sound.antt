@@ -1,5 +1,5 @@
 -- What the sums of at most 256 points are within, and what the line's words have room for. Definitions only.
-use Rattle.std.specs.Prelude.{ℕ, ◌*◌, ◌≤◌, ◌<◌, ◌≡◌, Bool, ◌&&◌, leb, ℤ, pos, nat_abs, ◌*ℤ◌, ◌<ℤ◌}
+use Rattle.std.specs.Prelude.{ℕ, ◌*◌, ◌≤◌, ◌≡◌, Bool, ◌&&◌, leb, ℤ, pos, nat_abs, ◌*ℤ◌, ◌<ℤ◌}
 use Rattle.whole.specs.Floor.{floor_div}
 use Rattle.trend.specs.declared.Sums.{Sums}
 

@@ -1,6 +1,6 @@
 -- Rounding up keeps the order of speeds, and accepted bytes that agree outside the speed's four are samples that agree in everything except speed. Assumes nothing.
 use mathlib.Core.Path.{◌≡◌, refl, sym, ap, ◌∙◌}
-use mathlib.Core.Bool.{Bool, true, false, ◌&&◌, ◌||◌, beq, true≢false, false≢true}
+use mathlib.Core.Bool.{Bool, true, false, ◌&&◌, ◌||◌, true≢false, false≢true}
 use mathlib.Core.List.{List, [], ◌∷◌, ◌++◌}
 use Prim.Native.Nat.{ℕ, ◌*◌, ◌≤◌}
 use native.Mathlib.Nat.{zero-mul}
@@ -8,7 +8,7 @@ use native.Mathlib.Omega.{arith}
 use lib.Dec.{ltb, eqb}
 use lib.ListN.{length, get_or, take, drop, length-drop, take-append-drop}
 use lib.Seq.{drop-drop}
-use lib.Ieee.{Float, nan, inf, fin, up, down, binary32, of_bits, below, level, lt, eq, le, is_nan}
+use lib.Ieee.{nan, inf, fin, up, down, binary32, of_bits, below, level, lt, eq, le, is_nan}
 use lib.Ieee.Fits.{down_pos}
 use borrow.Author.Tests.{ltb-true, ltb-false, eqb-true, not-false}
 use Rattle.bits.specs.Fields.{total}
@@ -19,7 +19,6 @@ use Rattle.bits.proofs.Ranges.{and-true_left, neither}
 use Rattle.hundredths.specs.declared.Rounding.TheVariants.{Up, Down}
 use Rattle.hundredths.specs.Reading.{most_speed, is_bad, hundredths_of}
 use Rattle.hundredths.proofs.Rounded.{rounded_mono}
-use Rattle.refusal.specs.declared.Verdict.{Verdict}
 use Rattle.refusal.specs.declared.Verdict.TheVariants.{Accepted}
 use Rattle.record.specs.Record.{wrong_length}
 use Rattle.sample.specs.declared.RawSample.{RawSample}

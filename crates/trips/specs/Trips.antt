@@ -1,5 +1,5 @@
 -- Document 02's R-13, "Say it for a whole trip": two sessions that are opened alike and given samples that agree in everything except speed. Nothing is
--- claimed for emergency, "which waits on each session's own penalty". Statements over machines; proofs/{Trips,Faster}.antt prove them.
+-- claimed for emergency, "which waits on each session's own penalty". Statements over machines; proofs/{Sides,Faster}.antt prove them.
 use Rattle.std.specs.Prelude.{◌≡◌, true, false, cond, List, [], ◌∷◌, map, ℕ, suc, ◌≤◌, take, drop, Float}
 use Rattle.std.specs.Float.Ieee.{le}
 use Rattle.hundredths.specs.declared.Rounding.TheVariants.{Up}

@@ -1,6 +1,6 @@
 -- `blocks::is_laid_out` meets its contract: the blocks before k have no spare bit. Assumes nothing.
 use mathlib.Core.Path.{◌≡◌, refl, sym, ap, ap₂, ◌∙◌}
-use mathlib.Core.Bool.{Bool, true, false, not, ◌&&◌}
+use mathlib.Core.Bool.{Bool, true, false, ◌&&◌}
 use mathlib.Core.List.{List}
 use Prim.Native.Nat.{ℕ, ◌-◌, ◌%◌, ◌≤◌}
 use native.Mathlib.Nat.{le_antisymm}
@@ -8,7 +8,6 @@ use native.Mathlib.Numerals.{add-one}
 use native.Mathlib.Omega.{arith}
 use lib.Dec.{leb, eqb}
 use lib.ListN.{length}
-use borrow.Author.Tests.{not-true, not-false}
 use Rattle.table.specs.Table.{every}
 use Rattle.blocks.specs.Blocks.{size, most, count, spare_zero, is_laid_out}
 use Rattle.blocks.specs.Steps.{field_in}

@@ -1,6 +1,6 @@
 -- `blocks::sums_right` meets its contract. Assumes nothing.
 use mathlib.Core.Path.{ap₂}
-use mathlib.Core.Bool.{Bool, ◌&&◌}
+use mathlib.Core.Bool.{◌&&◌}
 use Prim.Native.Nat.{ℕ}
 use lib.Dec.{eqb}
 use borrow.Author.Rules.{rules}

@@ -1,5 +1,5 @@
 -- `brake::heard_number` meets its contract. Assumes nothing.
-use mathlib.Core.Path.{sym, ap, ◌∙◌}
+use mathlib.Core.Path.{sym, ap}
 use native.Mathlib.Omega.{arith}
 use Rattle.brake.specs.Rear.{heard_number}
 use borrow.Author.Rules.{rules}

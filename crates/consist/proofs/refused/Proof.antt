@@ -1,5 +1,4 @@
 -- `consist::refused` meets its contract. Assumes nothing.
-use mathlib.Core.Path.{refl}
 use borrow.Author.Rules.{rules}
 use Rattle.consist.proofs.refused.Statement.{statement}
 use Rattle.consist.proofs.refused.Tie as tie

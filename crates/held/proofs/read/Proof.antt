@@ -1,5 +1,5 @@
 -- `held::read` meets its contract: its steps decide the one rule. Assumes nothing.
-use mathlib.Core.Path.{◌≡◌, refl, sym, ap, ap₂, ◌∙◌}
+use mathlib.Core.Path.{◌≡◌, sym, ap, ap₂, ◌∙◌}
 use native.Mathlib.Omega.{arith}
 use mathlib.Core.Bool.{Bool, true, false, not, ◌||◌, or-true}
 use mathlib.Core.List.{List}
@@ -8,10 +8,8 @@ use lib.ListN.{length, take}
 use lib.Seq.{length-take-le}
 use Rattle.refusal.proofs.Numbers.{told_one}
 use Rattle.refusal.proofs.Steps.{on_unless, off_unless}
-use Rattle.blocks.specs.declared.Blocks.{Blocks}
 use Rattle.blocks.specs.Blocks as blocks
 use Rattle.consist.specs.declared.Consist.{Consist}
-use Rattle.consist.specs.Consist as consist
 use Rattle.consist.specs.Consist.{read_consist, consist_in, with_blocks}
 use Rattle.session.specs.Session.{is_open}
 use Rattle.held.specs.Held.{size, behind_at, count_at, blocks_at, consist_at, session_in, no_record, is_broken, no_session, read_told}

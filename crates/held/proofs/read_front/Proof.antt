@@ -9,7 +9,6 @@ use Rattle.refusal.specs.declared.Refusal.TheVariants.{NoSession}
 use Rattle.refusal.specs.declared.Verdict.TheVariants.{Accepted}
 use Rattle.refusal.proofs.Steps.{on_unless, off_unless}
 use Rattle.consist.specs.declared.Consist.{Consist}
-use Rattle.session.specs.declared.Session.{Session}
 use Rattle.session.specs.Session.{is_open}
 use Rattle.held.specs.Held.{of_fields, fields_at, answer, refused_with, read_told, read_front}
 use borrow.Author.Rules.{rules}

@@ -1,9 +1,8 @@
 -- `held::size_at` meets its contract: the mark tells the count. Assumes nothing.
 use mathlib.Core.Path.{◌≡◌, sym, ap, ◌∙◌}
 use mathlib.Core.Bool.{true, false}
-use Prim.Native.Nat.{ℕ, ◌+◌, ◌-◌, ◌*◌, ◌≤◌, ◌<◌}
+use Prim.Native.Nat.{ℕ, ◌+◌, ◌-◌, ◌*◌, ◌≤◌}
 use native.Mathlib.Omega.{arith}
-use borrow.Author.Tests.{not-true, not-false}
 use Rattle.held.specs.Held.{size, letter, has_blocks, count_in, size_for, most}
 use Rattle.held.proofs.Sizes.{with_blocks, count_some, count_none, size_some}
 use borrow.Author.Rules.{rules}

@@ -1,11 +1,11 @@
 -- `hundredths::in_range` meets its contract: what is not below 0.0 has minus zero's bits or lower ones. Assumes nothing.
 use mathlib.Core.Path.{◌≡◌, refl, sym, ap, ◌∙◌, subst}
 use mathlib.Core.Bool.{Bool, true, false, ◌&&◌, true≢false}
-use Prim.Native.Nat.{ℕ, zero, suc, ◌+◌, ◌*◌, ◌≤◌}
+use Prim.Native.Nat.{ℕ, zero, suc, ◌*◌, ◌≤◌}
 use native.Mathlib.Nat.{mul-one, zero-mul, zero-div, mul-pos, zero-lt-suc, ne_of_lt}
 use native.Mathlib.Omega.{arith}
 use lib.Dec.{T, leb, lit≤}
-use lib.Ieee.{Float, nan, inf, fin, up, down, binary32, fits, of_bits, to_bits, size, le, lt, eq}
+use lib.Ieee.{Float, nan, inf, fin, up, binary32, fits, of_bits, to_bits, size, le, lt, eq}
 use lib.Ieee.Bits.{to_bits-lt}
 use lib.Ieee.Fits.{up_pos}
 use borrow.Author.Rules.{rules}

@@ -1,5 +1,5 @@
 -- `lent::clear` meets its contract: after i turns the first i bytes are zero. Assumes nothing.
-use mathlib.Core.Path.{◌≡◌, refl, ap, subst, ◌∙◌}
+use mathlib.Core.Path.{◌≡◌, refl, ap, ◌∙◌}
 use mathlib.Core.List.{List, ◌++◌, append-nil}
 use Prim.Native.Nat.{ℕ, ◌-◌, ◌≤◌, zero-le}
 use native.Mathlib.Nat.{le_antisymm}

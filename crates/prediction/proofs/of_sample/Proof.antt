@@ -1,5 +1,5 @@
 -- `prediction::of_sample` meets its contract: the track that is laid is the profile's, and its totals are that track's. Assumes nothing.
-use mathlib.Core.Path.{◌≡◌, ap, ◌∙◌}
+use mathlib.Core.Path.{ap, ◌∙◌}
 use borrow.Author.Rules.{rules}
 use Rattle.track.specs.declared.Track.{Track}
 use Rattle.prediction.specs.Prediction.{outcome_over}

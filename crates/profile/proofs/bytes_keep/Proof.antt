@@ -6,7 +6,6 @@ use Prim.Native.Nat.{ℕ, ◌-◌, ◌%◌, ◌≤◌}
 use native.Mathlib.Omega.{arith}
 use lib.Dec.{eqb}
 use lib.ListN.{length}
-use borrow.Author.Tests.{not-false}
 use Rattle.bits.proofs.Ranges.{and-true_right}
 use Rattle.table.specs.Table.{clean_at, lawful_in}
 use Rattle.table.proofs.Records.{fields_at_lem}

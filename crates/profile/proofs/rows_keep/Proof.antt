@@ -4,7 +4,6 @@ use mathlib.Core.Bool.{not, true}
 use Prim.Native.Nat.{◌-◌, ◌≤◌}
 use native.Mathlib.Omega.{arith}
 use lib.ListN.{length}
-use borrow.Author.Tests.{not-false}
 use Rattle.bits.proofs.Ranges.{and-true_left, and-true_right}
 use Rattle.table.proofs.Judging.{counted_range, closed_last, Judged, judged_none, judged_next, lawful_wrong, lawful_judged}
 use Rattle.profile.specs.Profile.{fewest, ends, segments, counted, segment_of, same}

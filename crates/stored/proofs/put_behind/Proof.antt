@@ -1,12 +1,11 @@
 -- `stored::put_behind` meets its contract: the blocks' bytes, and their check word over the last four. Assumes nothing.
-use mathlib.Core.Path.{◌≡◌, refl, sym, ap, ◌∙◌}
+use mathlib.Core.Path.{◌≡◌, sym, ap, ◌∙◌}
 use mathlib.Core.List.{List, [], ◌∷◌, ◌++◌}
-use Prim.Native.Nat.{ℕ, zero, suc, ◌+◌, ◌*◌, ◌≤◌, ◌<◌}
+use Prim.Native.Nat.{ℕ, zero, suc, ◌+◌, ◌*◌, ◌<◌}
 use native.Mathlib.Omega.{arith}
 use lib.ListN.{length, drop, length-drop}
 use Rattle.seal.specs.Seal.{resealed}
 use Rattle.seal.proofs.Seals.{resealed_over}
-use Rattle.blocks.specs.declared.Blocks.{Blocks}
 use Rattle.blocks.specs.Blocks as blocks
 use Rattle.held.specs.Held.{behind_for, behind_of}
 use borrow.Author.Rules.{rules}

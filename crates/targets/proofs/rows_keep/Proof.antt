@@ -4,7 +4,7 @@ use mathlib.Core.Bool.{not, true, and-true}
 use Prim.Native.Nat.{◌-◌}
 use native.Mathlib.Omega.{arith}
 use lib.ListN.{length}
-use borrow.Author.Tests.{eqb-true, not-false}
+use borrow.Author.Tests.{eqb-true}
 use Rattle.bits.proofs.Ranges.{and-true_left}
 use Rattle.table.proofs.Judging.{Judged, judged_none, judged_next, lawful_wrong, lawful_judged, closed_any}
 use Rattle.targets.specs.Targets.{targets, target_of, same}

@@ -6,7 +6,7 @@ use lib.IntN.{ℤ, ◌+ℤ◌, ◌-ℤ◌}
 use mir.Syntax.{w64}
 use mir.Val.{SFits, to_z, of_z}
 use mir.Facts.{to_z-of_z}
-use borrow.Author.Rules.{rules, sfits_of}
+use borrow.Author.Rules.{sfits_of}
 use Rattle.whole.proofs.Size.{abs_add, fits_abs}
 use Rattle.whole.proofs.Words.{Holds, fit_holds, op_fits, op_holds}
 use Rattle.shares.specs.Steps.{grade_share_of}
