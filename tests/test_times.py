@@ -53,6 +53,13 @@ class Times(unittest.TestCase):
         costs.take(LINES[-2])
         self.assertEqual(costs.shows_nothing(), 1)
 
+    def test_budget(self):
+        self.assertFalse(self.costs.is_over(149))
+        self.costs.take("rt: ok; handles allowed: none; must-fail edits: 2 refused; every proof and must-fail edit was done in this run")
+        self.assertTrue(self.costs.is_over(159))
+        self.assertFalse(self.costs.is_over(160))
+        self.assertFalse(self.costs.is_over(None))
+
     def test_an_edit_refused_for_a_name_alone(self):
         costs = times.Costs()
         costs.take("rt: must-fail bits/seven_bits.edit: refused, as it must be (only because a proof file names what the edit took away, "
