@@ -53,7 +53,7 @@ class Contracts(unittest.TestCase):
 
     def test_requires_for_c(self):
         """Even where its row names no theorem of a customer's call."""
-        self.change("docs/CONTRACTS.md", "| `buongilach_is_open` |", "| `is-open-one` |")
+        self.change("docs/CONTRACTS.md", "| `buongilach_is_open` |", "| `is_open_one` |")
         name = "pub extern \"C\" fn buongilach_is_open(session: &[u8]) -> bool\n"
         self.change("crates/buongilach/src/lib.rt", name, name + "    requires { x }\n")
         self.assert_fault("buongilach::buongilach_is_open has a `requires`")
@@ -67,11 +67,11 @@ class Contracts(unittest.TestCase):
         self.assert_fault("consist::is_light has a row in docs/CONTRACTS.md and is no public function")
 
     def test_no_theorem(self):
-        self.change("crates/bits/proofs/Unique.antt", "pub word_one ", "pub word-two ")
+        self.change("crates/bits/proofs/Unique.antt", "pub word_one ", "pub word_two ")
         self.assert_fault("bits::word has no theorem word_one")
 
     def test_not_among_the_calls(self):
-        self.change("crates/demands/specs/Calls.antt", "pub session_open ", "pub session-opens ")
+        self.change("crates/demands/specs/Calls.antt", "pub session_open ", "pub session_opens ")
         self.assert_fault("session::open has no theorem session_open")
 
     def programs_of_reader(self):

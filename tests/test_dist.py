@@ -50,6 +50,7 @@ class Dist(unittest.TestCase):
                        "fn one: proved\nlogic=proved functions=%d sum=0a native=nat\n" % count)
         self.write("target/log/enforce.say",
                    "axioms libc: libc::read, libc::write (2 of the 50 declared)\n"
+                   "axioms os: none reached of the 22 declared\n"
                    "logic=proved functions=1 axioms=2 sum=0a\nlinked target=x\n")
         self.tool("rt", "[ \"$1\" != version ] || echo kit-0 logic 0a\n")
         self.tool("git", "[ \"$1\" != rev-parse ] || echo %s\n" % COMMIT)
@@ -151,7 +152,7 @@ class Dist(unittest.TestCase):
         self.assert_unfit("does not name the files", dist.verify, self.root, place)
 
     def test_no_paper_leads_out(self):
-        for words in ("see `tools/asks`", "by rt staticlib", "(docs/DECISIONS.md)", "target/staticlib/libbuongilach.a"):
+        for words in ("see `tools/asks`", "by rt lib", "(docs/DECISIONS.md)", "target/staticlib/libbuongilach.a"):
             with self.subTest(words=words):
                 self.write("docs/RECORDS.md", words + "\n")
                 self.assert_unfit("docs/RECORDS.md: ", dist.verify, self.root, self.release())

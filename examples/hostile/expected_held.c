@@ -79,7 +79,7 @@ static bool is_record(const uint8_t *session)
         && is_sealed(session, HELD_CHECK) && (count == 0 || is_sealed(session + EXPECTED_FRONT, count * BUONGILACH_BLOCK_BYTES));
 }
 
-/* A and B together, by state (crates/brake/specs/Sound.antt, `isBalanced`). */
+/* A and B together, by state (crates/brake/specs/Sound.antt, `is_balanced`). */
 static bool is_balanced(const second_brakes *k, int64_t set)
 {
     int64_t service = 5 * k->a + 2 * k->b;
@@ -98,7 +98,7 @@ static bool is_balanced(const second_brakes *k, int64_t set)
     }
 }
 
-/* `isSound` there; heard at no time past 24 bits (docs/DECISIONS.md 153). */
+/* `is_sound` there; heard at no time past 24 bits (docs/DECISIONS.md 153). */
 static bool is_sound(const second_brakes *k, int64_t set)
 {
     return k->state <= 5 && k->a <= set && k->b <= MOST_B && 7 * k->equalization <= 6 * set && k->fall <= MOST_FALL
@@ -106,14 +106,14 @@ static bool is_sound(const second_brakes *k, int64_t set)
         && k->heard_at < BITS_24 && is_balanced(k, set);
 }
 
-/* `isOpened` of crates/brake/specs/Brake.antt: what an opening gives, by either choice. */
+/* `is_at_opening` of crates/brake/specs/Brake.antt: what an opening gives, by either choice. */
 static bool is_opened(const second_brakes *k, int64_t set)
 {
     return k->state == 0 && k->hold == set && k->a == set && k->b == 0 && k->equalization == 0 && k->fall == 0
         && k->last_front == 0 && k->last_rear == 0 && k->last_time == 0 && !k->heard;
 }
 
-/* `isOpen` of crates/session: no emergency without a penalty; before the first sample the brakes are an opening's, and there is
+/* `is_open` of crates/session: no emergency without a penalty; before the first sample the brakes are an opening's, and there is
  * no cause of either. */
 static bool is_session(const second_session *session)
 {
