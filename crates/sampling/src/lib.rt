@@ -105,8 +105,6 @@ fn advance(x: Session, m: Sample, p: &[u8], t: &[u8]) -> After
     let lesson = learn::taught(l, shown(c, updated, m));
     let learnt = lesson.learnt;
     let learner = lesson.learner;
-    // from the next sample on: this one is predicted with the time that was in force
-    let consist = in_force(c, learnt);
     let found = prediction::of_sample(c, updated, m, p, t, x.cause);
     let cause = judge::standing(x.cause, found.called);
     let called = judge::standing(x.emergency, found.emergency_called);
@@ -114,6 +112,8 @@ fn advance(x: Session, m: Sample, p: &[u8], t: &[u8]) -> After
     let number = brake::state_number(state);
     let decision = decided(false, m.time, number, cause, found.stop);
     let emergency = decided(true, m.time, number, called, found.emergency_stop);
+    // from the next sample on: this one is predicted with the time that was in force
+    let consist = in_force(c, learnt);
     let session = Session {
         opened: true,
         consist,
