@@ -70,6 +70,10 @@ class Contracts(unittest.TestCase):
         self.change("crates/bits/proofs/Unique.antt", "pub word_one ", "pub word_two ")
         self.assert_fault("bits::word has no theorem word_one")
 
+    def test_no_theorem_of_the_archive(self):
+        self.change("crates/buongilach_c/proofs/Unique.antt", "pub buongilach_open_one ", "pub buongilach_open_two ")
+        self.assert_fault("buongilach_c::buongilach_open has no theorem buongilach_open_one")
+
     def test_not_among_the_calls(self):
         self.change("crates/demands/specs/Calls.antt", "pub session_open ", "pub session_opens ")
         self.assert_fault("session::open has no theorem session_open")

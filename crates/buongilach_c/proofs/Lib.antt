@@ -1,0 +1,2 @@
+-- What C links.
+pub mod Unique
