@@ -44,11 +44,11 @@ class Contracts(unittest.TestCase):
         self.assertEqual((ran.returncode, ran.stderr), (0, ""), ran.stdout)
 
     def test_no_contract(self):
-        self.change("crates/consist/src/lib.rt", "pub fn read(s: &[u8]) -> Answer\n    ensures", "pub fn read(s: &[u8]) -> Answer\n    decreases")
+        self.change("crates/consist/src/lib.rt", "pub fn read(s: &[u8]) -> Result<Consist, Refusal>\n    ensures", "pub fn read(s: &[u8]) -> Result<Consist, Refusal>\n    decreases")
         self.assert_fault("consist::read has no contract on its result")
 
     def test_requires(self):
-        self.change("crates/consist/src/lib.rt", "pub fn read(s: &[u8]) -> Answer\n", "pub fn read(s: &[u8]) -> Answer\n    requires { x }\n")
+        self.change("crates/consist/src/lib.rt", "pub fn read(s: &[u8]) -> Result<Consist, Refusal>\n", "pub fn read(s: &[u8]) -> Result<Consist, Refusal>\n    requires { x }\n")
         self.assert_fault("consist::read has a `requires`")
 
     def test_requires_for_c(self):

@@ -59,10 +59,11 @@ class Papers(unittest.TestCase):
                 self.assertNotRegex(said, rf"\b{number}\b")
 
     def test_links(self):
+        code = r"(?ms)^```.*?^```|`[^`\n]*`"
         for folder in ("", "docs"):
             for name in os.listdir(os.path.join(ROOT, folder)):
                 if name.endswith(".md"):
-                    for link in re.findall(r"\]\(([^)#:]+)\)", text_of(os.path.join(folder, name))):
+                    for link in re.findall(r"\]\(([^)#:]+)\)", re.sub(code, "", text_of(os.path.join(folder, name)))):
                         self.assertTrue(os.path.exists(os.path.join(ROOT, folder, link)), f"{name}: {link}")
 
 

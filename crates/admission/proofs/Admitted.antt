@@ -8,8 +8,7 @@ use lib.Dec.{ltb}
 use borrow.Author.Tests.{not-false, ltb-false}
 use Rattle.bits.proofs.Ranges.{neither}
 use Rattle.refusal.specs.Lowest.{Rule, lowest}
-use Rattle.refusal.specs.declared.Verdict.{Verdict}
-use Rattle.refusal.specs.declared.Verdict.TheVariants.{Accepted}
+use Rattle.refusal.specs.Verdict.{Verdict, Accepted}
 use Rattle.refusal.proofs.Order.{accepted, passed, last_passed}
 use Rattle.record.specs.Location.{farthest}
 use Rattle.consist.specs.declared.Consist.{Consist}

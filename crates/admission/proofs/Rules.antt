@@ -7,8 +7,7 @@ use lib.Dec.{T}
 use Rattle.refusal.specs.Lowest.{Rule, lowest}
 use Rattle.refusal.specs.declared.Refusal.{Refusal}
 use Rattle.refusal.specs.declared.Refusal.TheVariants.{WrongTime, NotCovered}
-use Rattle.refusal.specs.declared.Verdict.{Verdict}
-use Rattle.refusal.specs.declared.Verdict.TheVariants.{Accepted, Refused}
+use Rattle.refusal.specs.Verdict.{Verdict, Accepted, Refused}
 use Rattle.refusal.proofs.Order.{before, append_given, append_passed}
 use Rattle.refusal.proofs.Steps.{first_of, in_order}
 use Rattle.table.specs.Table.{judge}
@@ -16,7 +15,9 @@ use Rattle.profile.specs.Profile as profile
 use Rattle.targets.specs.Targets as targets
 use Rattle.consist.specs.declared.Consist.{Consist}
 use Rattle.sample.specs.declared.RawSample.{RawSample}
+use Rattle.sample.specs.declared.Sample.{Sample}
 use Rattle.sample.specs.Sample as sample
+use Rattle.sample.proofs.Answers.{judged_accepted}
 use Rattle.brake.specs.declared.Brake.{Brake}
 use Rattle.admission.specs.Table.{wrong_time, not_covered}
 use Rattle.admission.specs.Steps.{rules_raw, no_entry, admit_raw, admit_of}
@@ -58,6 +59,19 @@ admit_raw_is c k raw p t v₆ v₇ v₈ b₉ b₁₀ h₆ h₇ h₈ h₉ h₁₀
     ∙ ap (or_else v₇)
     (step (sample.judge_rules raw) _ v₈ tt h₈
     ∙ ap (or_else v₈) (in_order ((wrong_time k (sample.sample_of raw), WrongTime) ∷ (not_covered c p (sample.sample_of raw), NotCovered) ∷ []) tt ∙ rw (h₉, h₁₀)))))
+
+-- where all three accept, the rest is left to 9 and 10
+pub left_to : (c : Consist) (k : Brake) (raw : RawSample) (p t : List ℕ) (n o : ℕ) (m : Sample)
+    → profile.judge_profile p ≡ (Accepted, n)
+    → targets.judge_targets t ≡ (Accepted, o)
+    → sample.judge_sample raw ≡ (Accepted, m)
+    → (b₉ b₁₀ : Bool) → wrong_time k m ≡ b₉ → not_covered c p m ≡ b₁₀
+    → admit_raw c k raw p t ≡ sample.judgement (first_of ((b₉, WrongTime) ∷ (b₁₀, NotCovered) ∷ [])) m
+left_to c k raw p t n o m six seven eight b₉ b₁₀ h₉ h₁₀ =
+    let is : m ≡ sample.sample_of raw = (judged_accepted raw m eight).1 in
+    admit_raw_is c k raw p t _ _ _ b₉ b₁₀ (λ i. (six i).0) (λ i. (seven i).0) (λ i. (eight i).0)
+    (ap (wrong_time k) (sym is) ∙ h₉) (ap (not_covered c p) (sym is) ∙ h₁₀)
+    ∙ ap (sample.judgement (first_of ((b₉, WrongTime) ∷ (b₁₀, NotCovered) ∷ []))) (sym is)
 
 -- ---- of the bytes
 

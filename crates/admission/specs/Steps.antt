@@ -1,7 +1,7 @@
 -- What the steps of an admission find on their way. Definitions only.
 use Rattle.std.specs.Prelude.{List, ◌++◌, ℕ}
 use Rattle.refusal.specs.Lowest.{Rule, lowest}
-use Rattle.refusal.specs.declared.Verdict.{Verdict}
+use Rattle.refusal.specs.Verdict.{Verdict}
 use Rattle.consist.specs.declared.Consist.{Consist}
 use Rattle.sample.specs.declared.RawSample.{RawSample}
 use Rattle.sample.specs.declared.Sample.{Sample}

@@ -2,7 +2,7 @@
 use Rattle.std.specs.Prelude.{ℕ, true}
 use Rattle.brake.specs.declared.State.{State}
 use Rattle.brake.specs.declared.Choice.{Choice}
-use Rattle.brake.specs.declared.Heard.{Heard}
+use Rattle.brake.specs.Rear.{Heard}
 use Rattle.brake.specs.declared.Brake.{Brake}
 use Rattle.air.specs.declared.Air.{Air}
 

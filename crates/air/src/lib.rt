@@ -12,8 +12,8 @@ use brake::{Brake, State};
 use consist::Consist;
 use reading::Reading;
 
-// What the rules change of a brake: all that is held but the last sample's readings.
-#[derive(Clone, Copy)]
+// What the rules change of a brake: all that is held but the last sample's readings, which no method here can touch.
+#[derive(Clone, Copy, Debug, PartialEq, Eq)]
 pub struct Air {
     pub state: State,
     pub hold: u16,
@@ -30,6 +30,7 @@ fn over(change: u16, seconds: u32) -> u64
     change as u64 * seconds as u64
 }
 
+// Of its three numbers, as the definition has it: of an `Air` it would read two fields of six.
 fn equalization_emergency(a: u16, b: u16, nominal: u16) -> u16
     ensures { result ≡ equalization_emergency a b nominal }
 {
@@ -46,9 +47,11 @@ fn combined(a: u16, nominal: u16) -> u16
 fn fall_emergency(a: u16, equalization: u16) -> u16
     ensures { result ≡ fall_emergency a equalization }
 {
-    whole::ceil_div(whole::above(a as u64, equalization as u64), 10) as u16
+    whole::ceil_div(a.saturating_sub(equalization) as u64, 10) as u16
 }
 
+// A sound consist is asked for here, in `applying_service` and in `applying`, all for one division: a type that
+// holds the fact stands where more needs it, in `update`.
 fn fall_service(c: Consist) -> u16
     requires { consist.Sound c }
     ensures { result ≡ fall_service c }
@@ -60,24 +63,16 @@ fn fall_service(c: Consist) -> u16
 fn is_in_emergency(state: State) -> bool
     ensures { result ≡ in_emergency state }
 {
-    match state {
-        State::Charged => false,
-        State::ApplyingService => false,
-        State::HoldingService => false,
-        State::ApplyingEmergency => true,
-        State::HoldingEmergency => true,
-        State::Charging => false,
-    }
+    matches!(state, State::ApplyingEmergency | State::HoldingEmergency)
 }
 
 impl Air {
-    // What the rules change of this brake.
+    // What the rules change of this brake, by name, as the types differ. No `From`: the rest of the brake is left out.
     pub fn of(k: Brake) -> Self
         ensures { result ≡ air_of k }
     {
-        let state = k.state;
         Self {
-            state: state,
+            state: k.state,
             hold: k.hold,
             a: k.a,
             b: k.b,
@@ -87,6 +82,7 @@ impl Air {
     }
 
     // Equalization is taken from A as it was, the fall from A combined.
+    #[tactic(auto, unfolding(crate::specs::Rules::start_emergency))]
     pub fn applying_emergency(self, nominal: u16) -> Self
         ensures { result ≡ start_emergency self nominal }
     {
@@ -94,29 +90,28 @@ impl Air {
         let equalization = equalization_emergency(self.a, self.b, nominal);
         Self {
             state: State::ApplyingEmergency,
-            hold: self.hold,
-            a: a,
-            b: self.b,
-            equalization: equalization,
+            a,
+            equalization,
             fall: fall_emergency(a, equalization),
+            ..self
         }
     }
 
+    #[tactic(auto, unfolding(crate::specs::Rules::start_service))]
     fn applying_service(self, c: Consist) -> Self
         requires { consist.Sound c }
         ensures { result ≡ start_service c self }
     {
         Self {
             state: State::ApplyingService,
-            hold: self.hold,
-            a: self.a,
-            b: self.b,
             equalization: brake::equalization_service(self.a, self.b),
             fall: fall_service(c),
+            ..self
         }
     }
 
     // Start applying. A itself first falls at the next sample.
+    #[tactic(auto, unfolding(crate::specs::Rules::start_applying))]
     pub fn applying(self, c: Consist, r: Reading) -> Self
         requires { consist.Sound c }
         ensures { result ≡ start_applying c self r }
@@ -129,16 +124,15 @@ impl Air {
     }
 
     // Start charging.
+    #[tactic(auto, unfolding(crate::specs::Rules::start_charging))]
     pub fn charging(self, front: u16) -> Self
         ensures { result ≡ start_charging self front }
     {
         Self {
             state: State::Charging,
             hold: front,
-            a: self.a,
             b: 0,
-            equalization: self.equalization,
-            fall: self.fall,
+            ..self
         }
     }
 
@@ -146,10 +140,8 @@ impl Air {
     fn drop(self, level: u16, elapsed: u32) -> u16
         ensures { result ≡ drop_of self level elapsed }
     {
-        whole::lesser(
-            whole::above(self.a as u64, level as u64),
-            over(self.fall, elapsed),
-        ) as u16
+        let most = self.a.saturating_sub(level);
+        over(self.fall, elapsed).min(most as u64) as u16
     }
 
     // A falls by the drop, and B gains.
@@ -162,7 +154,8 @@ impl Air {
         self
     }
 
-    // In state 1, where B gains 5/2 of the drop.
+    // In state 1, where B gains 5/2 of the drop. `drop` and `fallen` have what this and the next share: level and gain are each state's.
+    #[tactic(auto, unfolding(crate::specs::Rules::fall_in_service))]
     pub fn fallen_in_service(self, level: u16, elapsed: u32) -> Self
         requires { (fall_in_service self level elapsed).b ≤ most_b }
         ensures { result ≡ fall_in_service self level elapsed }
@@ -172,6 +165,7 @@ impl Air {
     }
 
     // In state 3, where B gains 6 times the drop.
+    #[tactic(auto, unfolding(crate::specs::Rules::fall_in_emergency))]
     pub fn fallen_in_emergency(self, elapsed: u32) -> Self
         requires { (fall_in_emergency self elapsed).b ≤ most_b }
         ensures { result ≡ fall_in_emergency self elapsed }
@@ -181,12 +175,12 @@ impl Air {
     }
 
     // The air of an emergency from now on, as its curve starts: an emergency that is applied or held already is left as it is.
+    #[tactic(auto, unfolding(crate::specs::Emergency::emergency_air))]
     pub fn in_emergency(k: Brake, c: Consist) -> Self
         ensures { result ≡ emergency_air c k }
     {
         let held = Self::of(k);
-        let state = k.state;
-        if is_in_emergency(state) {
+        if is_in_emergency(k.state) {
             return held;
         }
         held.applying_emergency(reading::nominal(c.set, k.last_front, k.last_rear))

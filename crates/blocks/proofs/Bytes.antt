@@ -2,24 +2,26 @@
 use mathlib.Core.Path.{◌≡◌, refl, sym, ap, subst, ◌∙◌}
 use mathlib.Core.Bool.{Bool, true, false, cond}
 use mathlib.Core.List.{List, [], ◌∷◌, ◌++◌, append-nil}
-use Prim.Native.Nat.{ℕ, zero, suc, ◌*◌, ◌/◌, ◌^◌, ◌≤◌, ◌<◌}
+use Prim.Native.Nat.{ℕ, zero, suc, ◌*◌, ◌/◌, ◌^◌, ◌≤◌, ◌<◌, min}
 use native.Mathlib.Nat.{mul-div_cancel_left}
 use native.Mathlib.Omega.{arith}
-use lib.ListN.{length, drop}
+use lib.ListN.{length, drop, get_or}
 use lib.Seq.{take_all}
 use borrow.Author.Tests.{ltb-true, lt-ltb, le-ltb}
 use lib.Dec.{ltb}
 use Rattle.bits.specs.Fields.{Fit}
 use Rattle.bits.specs.Bytes.{Bytes, num, fields_in, bytes_from}
-use Rattle.bits.specs.Tables.{part}
+use Rattle.bits.specs.Tables.{part, up_to}
 use Rattle.bits.proofs.Bytes.{num-lt, fields_of_bytes, bytes_of_fields, bytes_take, bytes_drop}
+use Rattle.bits.proofs.UpTo.{filled, filled_up}
 use Rattle.refusal.specs.declared.Refusal.TheVariants.{BrokenBlocks}
 use Rattle.table.specs.Table as table
 use Rattle.table.specs.Table.{Table, part_at}
 use Rattle.table.proofs.Records.{length_part}
 use Rattle.table.proofs.Writing as writing
 use Rattle.blocks.specs.declared.Blocks.{Blocks}
-use Rattle.blocks.specs.Blocks.{size, most, widths, count, fields_at, fields_of, bytes_to, bytes_of}
+use Rattle.blocks.specs.Blocks.{size, most, widths, count, fields_at, fields_of, bytes_to, bytes_of, lay_of}
+use Rattle.blocks.specs.Steps.{blocks_of}
 
 -- ---- from bytes
 
@@ -102,3 +104,23 @@ module _ (b : Blocks) where
           let m : k < count s = subst (λ (n : ℕ). k < n) (sym (ap (λ (n : ℕ). n / size) e ∙ mul-div_cancel_left b.count (omega arith))) h in
           ap (bytes_from size widths) (are k h ∙ fields_held s k m)
           ∙ bytes_of_fields size widths refl (part size s k) (bytes_take size (drop (size * k) s) (bytes_drop (size * k) s by)) (length_part size s k (omega arith) m)
+
+-- ---- the arrays that bytes fill
+
+-- field j of each block
+abbrev pub column : List ℕ → ℕ → ℕ → ℕ
+column s j k = get_or (fields_at s k) j 0
+
+module _ (s : List ℕ) (n : ℕ) (e : n ≡ min (count s) most) where
+  -- past the last block an array is as it began
+  full : (f : ℕ → ℕ) → ((k : ℕ) → count s ≤ k → f k ≡ 0) → (xs : List ℕ) → xs ≡ filled f 0 most n → xs ≡ up_to most f
+  full f past xs h = h ∙ filled_up f 0 most n (omega arith) (λ i a b. past i (omega arith))
+
+  pub columns_laid : (lengths weights : List ℕ) → lengths ≡ filled (column s 0) 0 most n → weights ≡ filled (column s 1) 0 most n → blocks_of n lengths weights ≡ lay_of s
+  unfolding lay_of
+  columns_laid lengths weights l w =
+      rw (
+        e,
+        full (column s 0) (λ k h. ap (λ (fs : List ℕ). get_or fs 0 0) (fields_past s k h)) lengths l,
+        full (column s 1) (λ k h. ap (λ (fs : List ℕ). get_or fs 1 0) (fields_past s k h)) weights w,
+      )

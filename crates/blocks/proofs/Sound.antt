@@ -17,6 +17,10 @@ use Rattle.blocks.specs.Blocks.{most, none, length_of, weight_of, placed, place_
 use Rattle.blocks.specs.Steps.{empty_at, empty}
 use Rattle.blocks.specs.Sound.{Sound}
 
+pub placed_is : (b : Blocks) → length b.lengths ≡ most → length b.weights ≡ most → placed b ≡ true
+unfolding placed
+placed_is b h i = ap₂ ◌&&◌ (eq-eqb _ _ h) (eq-eqb _ _ i)
+
 module _ (b : Blocks) (l w : ℕ) where
   -- ---- what decides it
 

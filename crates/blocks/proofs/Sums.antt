@@ -1,9 +1,14 @@
 -- Laws of sums, and that no block is longer or heavier than the train. Assumes nothing.
-use mathlib.Core.Path.{◌≡◌, refl, ap₂, subst, sym}
+use mathlib.Core.Path.{◌≡◌, refl, ap, ap₂, subst, sym, ◌∙◌}
+use mathlib.Core.List.{List}
 use Prim.Native.Nat.{ℕ, zero, suc, ◌+◌, ◌≤◌, ◌<◌}
 use native.Mathlib.Nat.{not-suc-le-zero}
 use native.Mathlib.Decide.{ℕ_discrete}
+use native.Mathlib.Numerals.{add-one}
 use native.Mathlib.Omega.{arith}
+use lib.ListN.{length, take, get_or}
+use Rattle.std.specs.List.{sum_by}
+use Rattle.std.proofs.lemmas.List.Sums.{sum_by_more}
 use Rattle.blocks.specs.declared.Blocks.{Blocks}
 use Rattle.blocks.specs.Blocks.{length_of, weight_of, sum_to}
 use Rattle.blocks.specs.Sound.{Sound}
@@ -23,6 +28,13 @@ pub sum_same : (f g : ℕ → ℕ) (n : ℕ) → ((k : ℕ) → k < n → f k �
 unfolding sum_to
 sum_same f g zero h = refl
 sum_same f g (suc n) h = ap₂ (λ (a b : ℕ). a + b) (sum_same f g n (λ k l. h k (omega arith))) (h n (omega arith))
+
+-- a sum over the front of a list
+pub sum_front : (xs : List ℕ) (n : ℕ) → n ≤ length xs → sum_by (λ x. x) (take n xs) ≡ sum_to (λ k. get_or xs k 0) n
+unfolding sum_to
+sum_front xs zero h = refl
+sum_front xs (suc n) h =
+    ap (λ (i : ℕ). sum_by (λ (x : ℕ). x) (take i xs)) (sym (add-one n)) ∙ sum_by_more (λ x. x) xs n 0 h ∙ ap (λ (s : ℕ). s + get_or xs n 0) (sum_front xs n (omega arith))
 
 -- the sum of fewer is no more
 pub sum_mono : (f : ℕ → ℕ) (n m : ℕ) → n ≤ m → sum_to f n ≤ sum_to f m

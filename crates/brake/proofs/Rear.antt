@@ -1,12 +1,10 @@
 -- A choice, and when the rear was last present, are those of their numbers. Assumes nothing.
 use mathlib.Core.Path.{◌≡◌, refl, sym, ap, ◌∙◌}
-use Prim.Native.Nat.{ℕ, zero, suc, ◌-◌, ◌≤◌, ◌<◌}
+use Prim.Native.Nat.{ℕ, zero, suc, ◌≤◌, ◌<◌}
 use native.Mathlib.Omega.{arith}
 use Rattle.brake.specs.declared.Choice.{Choice}
 use Rattle.brake.specs.declared.Choice.TheVariants.{FiveSeconds, Everlasting}
-use Rattle.brake.specs.declared.Heard.{Heard}
-use Rattle.brake.specs.declared.Heard.TheVariants.{Never, At}
-use Rattle.brake.specs.Rear.{choice_number, choice_of, heard_number, heard_of}
+use Rattle.brake.specs.Rear.{Heard, Never, At, choice_number, choice_of, heard_number, heard_of}
 
 pub choice_back : (choice : Choice) → choice_of (choice_number choice) ≡ choice
 choice_back FiveSeconds = refl
@@ -35,12 +33,3 @@ choice_again (suc (suc n)) h = absurd (omega arith)
 pub heard_again : (n : ℕ) → heard_number (heard_of n) ≡ n
 heard_again zero = refl
 heard_again (suc n) = refl
-
--- of numbers that are not 0
-pub choice_else : (n : ℕ) → (n ≡ 0 → ⊥) → Everlasting ≡ choice_of n
-choice_else zero h = absurd (h refl)
-choice_else (suc n) h = refl
-
-pub heard_else : (n : ℕ) → (n ≡ 0 → ⊥) → At (n - 1) ≡ heard_of n
-heard_else zero h = absurd (h refl)
-heard_else (suc n) h = ap At (omega arith)

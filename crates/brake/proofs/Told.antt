@@ -9,10 +9,9 @@ use Rattle.bits.proofs.Bit.{of_bit}
 use Rattle.brake.specs.declared.State.{State}
 use Rattle.brake.specs.declared.State.TheVariants.{Charged, ApplyingService, HoldingService, ApplyingEmergency, HoldingEmergency, Charging}
 use Rattle.brake.specs.declared.Choice.{Choice}
-use Rattle.brake.specs.declared.Heard.{Heard}
 use Rattle.brake.specs.declared.Brake.{Brake}
 use Rattle.brake.specs.State.{state_number, state_of}
-use Rattle.brake.specs.Rear.{choice_of, heard_of}
+use Rattle.brake.specs.Rear.{Heard, choice_of, heard_of}
 use Rattle.brake.specs.Brake.{brake_told}
 use Rattle.brake.proofs.Rear.{choice_back, heard_back}
 

@@ -2,10 +2,10 @@
 -- Assumes nothing.
 use mathlib.Core.Path.{◌≡◌, sym, ◌∙◌}
 use contract.Lifetimes.{Lfts}
-use Rattle.brake.proofs.state_number.Reads as state_number
-use Rattle.brake.proofs.state_of.Reads as state_of
-use Rattle.brake.proofs.choice_number.Reads as choice_number
-use Rattle.brake.proofs.choice_of.Reads as choice_of
+use Rattle.brake.proofs.State.number.Reads as state_number
+use Rattle.brake.proofs.State.of_number.Reads as state_of
+use Rattle.brake.proofs.Choice.number.Reads as choice_number
+use Rattle.brake.proofs.Choice.of_number.Reads as choice_of
 use Rattle.brake.proofs.heard_number.Reads as heard_number
 use Rattle.brake.proofs.heard_of.Reads as heard_of
 use Rattle.brake.proofs.equalization_service.Reads as equalization_service

@@ -4,10 +4,9 @@ use Rattle.bits.specs.Fields.{bit}
 use Rattle.consist.specs.declared.Consist.{Consist}
 use Rattle.brake.specs.declared.State.TheVariants.{Charged}
 use Rattle.brake.specs.declared.Choice.{Choice}
-use Rattle.brake.specs.declared.Heard.TheVariants.{Never}
 use Rattle.brake.specs.declared.Brake.{Brake}
 use Rattle.brake.specs.State.{state_number}
-use Rattle.brake.specs.Rear.{choice_number, heard_number}
+use Rattle.brake.specs.Rear.{Never, choice_number, heard_number}
 
 -- "Held: state, .. hold (pipe pressure), A (average auxiliary reservoir), B (average cylinder), equalization, fall per second,
 -- last front, last rear, last time", and whether a sample was accepted; the set pressure is the consist's. Of R-7 the choice and when the rear was

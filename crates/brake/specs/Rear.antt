@@ -1,9 +1,7 @@
 -- What is held of a rear device that may go quiet: document 02's R-7. Definitions only.
-use Rattle.std.specs.Prelude.{ℕ, zero, suc}
+use Rattle.std.specs.Prelude.{ℕ, zero, suc, Option, Some, None}
 use Rattle.brake.specs.declared.Choice.{Choice}
 use Rattle.brake.specs.declared.Choice.TheVariants.{FiveSeconds, Everlasting}
-use Rattle.brake.specs.declared.Heard.{Heard}
-use Rattle.brake.specs.declared.Heard.TheVariants.{Never, At}
 
 -- "The new default" is 0; "the everlasting value", "the old choice in the opening", 1, and any other number asks for it
 abbrev pub choice_number : Choice → ℕ
@@ -14,7 +12,18 @@ abbrev pub choice_of : ℕ → Choice
 choice_of zero = FiveSeconds
 choice_of (suc n) = Everlasting
 
--- the time of "the last present value", as a number: 0 where "there was none yet", else one more than the time
+-- the time of "the last present value"
+abbrev pub Heard : Type 0
+Heard = Option ℕ
+
+-- "there was none yet"
+pattern abbrev pub Never : Heard
+Never = None
+
+pattern abbrev pub At : ℕ → Heard
+At time = Some time
+
+-- that time as a number: 0 where "there was none yet", else one more than the time
 abbrev pub heard_number : Heard → ℕ
 heard_number Never = 0
 heard_number (At time) = suc time

@@ -11,35 +11,29 @@ ghost use Rattle.brake.specs.Equalization.{equalization_service};
 
 use consist::Consist;
 
-#[derive(Clone, Copy)]
+// With the number that a decision carries.
+#[derive(Clone, Copy, Debug, PartialEq, Eq)]
 pub enum State {
-    Charged,
-    ApplyingService,
-    HoldingService,
-    ApplyingEmergency,
-    HoldingEmergency,
-    Charging,
+    Charged = 0,
+    ApplyingService = 1,
+    HoldingService = 2,
+    ApplyingEmergency = 3,
+    HoldingEmergency = 4,
+    Charging = 5,
 }
 
 // What a lost rear counts as, by the opening's choice.
-#[derive(Clone, Copy)]
+#[derive(Clone, Copy, Debug, PartialEq, Eq)]
 pub enum Choice {
     // the last present value for 5 seconds, then front: the default
-    FiveSeconds,
+    FiveSeconds = 0,
     // the last rear, for ever
-    Everlasting,
-}
-
-// When the rear was last present.
-#[derive(Clone, Copy)]
-pub enum Heard {
-    Never,
-    // seconds
-    At(u32),
+    Everlasting = 1,
 }
 
 // What is held from sample to sample, pressures in hundredths of a psi. The set pressure is the consist's.
-#[derive(Clone, Copy)]
+// Its invariant is no part of the type: `is_sound` answers for every value.
+#[derive(Clone, Copy, Debug, PartialEq, Eq)]
 pub struct Brake {
     pub state: State,
     // pipe pressure
@@ -55,83 +49,71 @@ pub struct Brake {
     pub last_rear: u16,
     // seconds
     pub last_time: u32,
-    // whether a sample was yet accepted
+    // whether a sample was yet accepted; a flag, as `is_at_opening` answers for the same readings with it and without it
     pub sampled: bool,
     // of the opening: what a lost rear counts as
     pub choice: Choice,
-    // when the rear was last present
-    pub heard: Heard,
+    // when the rear was last present, seconds
+    pub heard: Option<u32>,
 }
 
-// The state's number, as a decision carries it.
-pub fn state_number(s: State) -> u8
-    ensures { result ≡ state_number s }
-{
-    match s {
-        State::Charged => 0,
-        State::ApplyingService => 1,
-        State::HoldingService => 2,
-        State::ApplyingEmergency => 3,
-        State::HoldingEmergency => 4,
-        State::Charging => 5,
+impl State {
+    pub fn number(self) -> u8
+        ensures { result ≡ state_number self }
+    {
+        self as u8
+    }
+
+    // The state of a number: past 4, charging. No `TryFrom`, as it answers for every number, and no `From`, which should lose nothing;
+    // no trait with `Choice` and `learn::Stage` either: each has its own cases.
+    pub fn of_number(n: u64) -> Self
+        ensures { result ≡ state_of n }
+    {
+        match n {
+            0 => State::Charged,
+            1 => State::ApplyingService,
+            2 => State::HoldingService,
+            3 => State::ApplyingEmergency,
+            4 => State::HoldingEmergency,
+            _ => State::Charging,
+        }
     }
 }
 
-// The state of a number: past 4, charging.
-pub fn state_of(n: u64) -> State
-    ensures { result ≡ state_of n }
-{
-    match n {
-        0 => State::Charged,
-        1 => State::ApplyingService,
-        2 => State::HoldingService,
-        3 => State::ApplyingEmergency,
-        4 => State::HoldingEmergency,
-        _ => State::Charging,
+impl Choice {
+    pub fn number(self) -> u64
+        ensures { result ≡ choice_number self }
+    {
+        self as u64
+    }
+
+    // The choice of a number: any but 0 asks for the everlasting value. Neither `TryFrom` nor `From`, as of the state.
+    pub fn of_number(n: u64) -> Self
+        ensures { result ≡ choice_of n }
+    {
+        match n {
+            0 => Choice::FiveSeconds,
+            _ => Choice::Everlasting,
+        }
     }
 }
 
-// The choice's number, 0 for the default.
-pub fn choice_number(choice: Choice) -> u64
-    ensures { result ≡ choice_number choice }
-{
-    match choice {
-        Choice::FiveSeconds => 0,
-        Choice::Everlasting => 1,
-    }
-}
-
-// The choice of a number: any but 0 asks for the everlasting value.
-pub fn choice_of(n: u64) -> Choice
-    ensures { result ≡ choice_of n }
-{
-    match n {
-        0 => Choice::FiveSeconds,
-        _ => Choice::Everlasting,
-    }
-}
-
-// 0 for never, else one more than the time.
-pub fn heard_number(heard: Heard) -> u64
+// When the rear was last present, as a number: 0 for never, else one more than the time.
+// Functions, this and the next: an `Option` is std's type, and takes no method or `From` of this crate.
+pub fn heard_number(heard: Option<u32>) -> u64
     ensures { result ≡ heard_number heard }
 {
-    match heard {
-        Heard::Never => 0,
-        Heard::At(time) => time as u64 + 1,
-    }
+    heard.map_or(0, |time| time as u64 + 1)
 }
 
 // When the rear was last present, by that number.
-pub fn heard_of(n: u32) -> Heard
+pub fn heard_of(n: u32) -> Option<u32>
     ensures { result ≡ heard_of n }
 {
-    match n {
-        0 => Heard::Never,
-        _ => Heard::At(n - 1),
-    }
+    n.checked_sub(1)
 }
 
-// Where a service application from A and B ends.
+// Where a service application from A and B ends. Of both by themselves: `air` has them in an `Air`, `step` has them alone.
 pub fn equalization_service(a: u16, b: u16) -> u16
     ensures { result ≡ equalization_service a b }
 {
@@ -167,7 +149,7 @@ impl Brake {
             last_time: 0,
             sampled: false,
             choice,
-            heard: Heard::Never,
+            heard: None,
         }
     }
 
@@ -175,17 +157,9 @@ impl Brake {
     pub fn is_at_opening(self, c: Consist) -> bool
         ensures { result ≡ is_at_opening c self }
     {
-        let state = self.state;
-        let heard = self.heard;
-        (state_number(state) == 0)
-            & (self.hold == c.set)
-            & (self.a == c.set)
-            & (self.b == 0)
-            & (self.equalization == 0)
-            & (self.fall == 0)
-            & (self.last_front == 0)
-            & (self.last_rear == 0)
-            & (self.last_time == 0)
-            & (heard_number(heard) == 0)
+        self == Self {
+            sampled: self.sampled,
+            ..Self::at_opening(c, self.choice)
+        }
     }
 }

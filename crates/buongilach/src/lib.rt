@@ -1,5 +1,6 @@
 // The library for C: the customer's calls with the session in lent bytes, the records, and the version. A slice is a pointer, then a length;
-// an answer is the refusal's number, 0 for none.
+// an answer is the refusal's number, 0 for none. Names, parameters and answers are C's.
+// Crate `buongilach_c` has each call again, since no crate can be both a library and an archive.
 #![tactic(auto)]
 
 pub mod records;
@@ -25,8 +26,7 @@ pub extern "C" fn buongilach_open(session: &mut [u8], consist: &[u8]) -> u8
 pub extern "C" fn buongilach_open_with(session: &mut [u8], consist: &[u8], everlasting: u32) -> u8
     ensures { (result, session.new) ≡ open_bytes consist.now session.old (choice_of everlasting) }
 {
-    let choice = brake::choice_of(everlasting as u64);
-    lent::open(session, consist, choice)
+    lent::open(session, consist, Choice::of_number(everlasting as u64))
 }
 
 // Judges a sample, with the profile and the targets lent for it, moves the session on and writes the two decisions to the start of `decision`.

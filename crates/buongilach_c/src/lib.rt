@@ -1,5 +1,5 @@
 // What C links: each call of the library `buongilach` under its name, with its clauses again, since no crate can be both a library and an
-// archive. A slice is a pointer, then a length; an answer is the refusal's number, 0 for none.
+// archive. A slice is a pointer, then a length; an answer is the refusal's number, 0 for none. Names, parameters and answers are C's.
 #![tactic(auto)]
 
 pub mod records;

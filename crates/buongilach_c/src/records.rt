@@ -1,4 +1,5 @@
 // The records for C: each is written from numbers, judged, and a decision is read to numbers. A reading is the 32 bits of a binary32.
+// Names, parameters, lists side by side and answers are C's; each is a call of the library, which is no archive.
 ghost use Rattle.std.specs.Prelude.{◌≡◌, [], ◌∷◌};
 ghost use Rattle.writes.specs.Written.{consist_written, manifest_written, profile_written, targets_written, sample_fields, sample_written};
 ghost use Rattle.tells.specs.Judged.{consist_judged, profile_judged, targets_judged, sample_judged, decision_as_read};

@@ -1,7 +1,7 @@
 -- "What is written reads back the same, and what is accepted would be written with the same bits." Statements; proofs/RoundTrip.antt proves them.
 use Rattle.std.specs.Prelude.{◌≡◌, ℕ, ◌≤◌, List, ◌++◌, length, take, drop}
 use Rattle.bits.specs.Bytes.{Bytes}
-use Rattle.refusal.specs.declared.Verdict.TheVariants.{Accepted}
+use Rattle.refusal.specs.Verdict.{Accepted}
 use Rattle.consist.specs.declared.Consist.{Consist}
 use Rattle.consist.specs.Consist.{size_of, answer, read_consist, write_consist}
 

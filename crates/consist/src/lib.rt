@@ -3,13 +3,13 @@
 
 ghost use Rattle.std.specs.Prelude.{◌≡◌, take, drop};
 ghost use Rattle.bits.specs.Places.{fields_from, put_from};
-ghost use Rattle.refusal.specs.Number.{told};
-ghost use Rattle.consist.specs.Consist.{widths, fields_of, of_fields, with_blocks, alone, size_of, in_range, too_light, sound_blocks, is_sound, refused_with, read_consist, write_consist};
+ghost use Rattle.refusal.specs.Number.{told, answer_of};
+ghost use Rattle.consist.specs.Consist.{widths, fields_of, of_fields, with_blocks, alone, size_of, in_range, too_light, sound_blocks, is_sound, none, read_consist, write_consist};
 
 use blocks::Blocks;
-use refusal::{Refusal, Step, Verdict};
+use refusal::{Refusal, Verdict};
 
-#[derive(Clone, Copy)]
+#[derive(Clone, Copy, Debug, PartialEq, Eq)]
 pub struct Consist {
     pub cars: u16,
     pub axles: u16,
@@ -38,9 +38,7 @@ impl Consist {
     pub fn with_blocks(self, blocks: Blocks) -> Consist
         ensures { result ≡ with_blocks self blocks }
     {
-        let mut c = self;
-        c.blocks = blocks;
-        c
+        Consist { blocks, ..self }
     }
 
     // The consist without its blocks.
@@ -51,47 +49,83 @@ impl Consist {
     }
 
     // Bytes of the record with its blocks.
-    fn size(self) -> usize
-        ensures { result ≡ size_of self }
+    fn size(&self) -> usize
+        ensures { result ≡ size_of self.now }
     {
-        let b = self.blocks;
-        Consist::SIZE + Blocks::SIZE * b.count as usize
+        Consist::SIZE + Blocks::SIZE * self.blocks.count as usize
+    }
+
+    #[tactic(auto, using(crate::proofs::Ranges::tested))]
+    fn is_in_range(&self) -> bool
+        ensures { result ≡ in_range self.now }
+    {
+        (1 <= self.cars)
+            & (self.cars <= 250)
+            & (2 <= self.axles)
+            & (self.axles <= 2_000)
+            & (10 <= self.weight)
+            & (self.weight <= 30_000)
+            & (50 <= self.length)
+            & (self.length <= 20_000)
+            & (self.rated <= 10_000_000)
+            & (1_000 <= self.application)
+            & (self.application <= 240_000)
+            & (1 <= self.recharge)
+            & (self.recharge <= 1_000)
+            & (7_000 <= self.set)
+            & (self.set <= 11_000)
+            & (self.offset <= 4_000)
+    }
+
+    #[tactic(auto, unfolding(crate::specs::Consist::too_light))]
+    fn is_too_light(&self) -> bool
+        ensures { result ≡ too_light self.now }
+    {
+        (self.weight as u32) < 10 * self.cars as u32
+    }
+
+    #[tactic(auto, unfolding(crate::specs::Consist::sound_blocks))]
+    fn has_sound_blocks(&self) -> bool
+        ensures { result ≡ sound_blocks self.now }
+    {
+        blocks::is_sound(self.blocks, self.length, self.weight)
+    }
+
+    // The first five fields. The bytes before the blocks are put in two parts, each short enough to be put without a loop.
+    // All records are put by `bits::put_fields`, which takes widths beside values: those are each record's own.
+    fn put_front(&self, out: &mut [u8])
+        ensures { out.new ≡ put_from 0 (take 5 widths) (take 5 (fields_of self.now)) out.old }
+    {
+        let widths = [9, 11, 15, 15, 24];
+        let values = [
+            self.cars as u64,
+            self.axles as u64,
+            self.weight as u64,
+            self.length as u64,
+            self.rated as u64,
+        ];
+        bits::put_fields(out, 0, &widths, &values);
+    }
+
+    // The other four.
+    fn put_back(&self, out: &mut [u8])
+        ensures { out.new ≡ put_from 74 (drop 5 widths) (drop 5 (fields_of self.now)) out.old }
+    {
+        let widths = [18, 10, 14, 12];
+        let values = [
+            self.application as u64,
+            self.recharge as u64,
+            self.set as u64,
+            self.offset as u64,
+        ];
+        bits::put_fields(out, 74, &widths, &values);
     }
 }
 
-// What reading a consist answers; where it is refused, the consist is all zero, without blocks.
-#[derive(Clone, Copy)]
-pub struct Answer {
-    pub verdict: Verdict,
-    pub consist: Consist,
-}
-
-fn refused(r: Refusal) -> Answer
-    ensures { (result.verdict, result.consist) ≡ refused_with r }
-{
-    let blocks = Blocks::none();
-    Answer {
-        verdict: Verdict::Refused(r),
-        consist: Consist {
-            cars: 0,
-            axles: 0,
-            weight: 0,
-            length: 0,
-            rated: 0,
-            application: 0,
-            recharge: 0,
-            set: 0,
-            offset: 0,
-            blocks,
-        },
-    }
-}
-
-// The consist of the bytes before its blocks.
+// The consist of the bytes before its blocks. All records are read by `bits::field`: names, places and types are each one's own.
 fn of_bytes(s: &[u8]) -> Consist
     ensures { result ≡ of_fields (fields_from 0 widths s.now) }
 {
-    let blocks = Blocks::none();
     Consist {
         cars: bits::field(s, 0, 9) as u16,
         axles: bits::field(s, 9, 11) as u16,
@@ -102,123 +136,56 @@ fn of_bytes(s: &[u8]) -> Consist
         recharge: bits::field(s, 92, 10) as u16,
         set: bits::field(s, 102, 14) as u16,
         offset: bits::field(s, 116, 12) as u16,
-        blocks,
+        blocks: Blocks::none(),
     }
-}
-
-fn in_range(c: Consist) -> bool
-    ensures { result ≡ in_range c }
-{
-    (1 <= c.cars)
-        & (c.cars <= 250)
-        & (2 <= c.axles)
-        & (c.axles <= 2_000)
-        & (10 <= c.weight)
-        & (c.weight <= 30_000)
-        & (50 <= c.length)
-        & (c.length <= 20_000)
-        & (c.rated <= 10_000_000)
-        & (1_000 <= c.application)
-        & (c.application <= 240_000)
-        & (1 <= c.recharge)
-        & (c.recharge <= 1_000)
-        & (7_000 <= c.set)
-        & (c.set <= 11_000)
-        & (c.offset <= 4_000)
-}
-
-fn too_light(c: Consist) -> bool
-    ensures { result ≡ too_light c }
-{
-    (c.weight as u32) < 10 * c.cars as u32
-}
-
-fn sound_blocks(c: Consist) -> bool
-    ensures { result ≡ sound_blocks c }
-{
-    let b = c.blocks;
-    blocks::is_sound(b, c.length, c.weight)
 }
 
 // Whether a consist is one that is not refused.
+#[tactic(auto, unfolding(crate::specs::Consist::is_sound))]
 pub fn is_sound(c: Consist) -> bool
     ensures { result ≡ is_sound c }
 {
-    in_range(c) & !too_light(c) & sound_blocks(c)
+    c.is_in_range() & !c.is_too_light() & c.has_sound_blocks()
 }
 
-pub fn read(s: &[u8]) -> Answer
-    ensures { told (result.verdict, result.consist) ≡ told (read_consist s.now) }
+pub fn read(s: &[u8]) -> Result<Consist, Refusal>
+    ensures { told (answer_of none result) ≡ told (read_consist s.now) }
 {
-    let Step::On = refusal::unless(s.len() < Consist::SIZE) else {
-        return refused(Refusal::WrongLength);
+    let Some(()) = refusal::unless(s.len() < Consist::SIZE) else {
+        return Err(Refusal::WrongLength);
     };
     let c = of_bytes(&s[..Consist::SIZE]);
-    let Step::On = refusal::unless(!in_range(c)) else {
-        return refused(Refusal::OutOfRange);
+    let Some(()) = refusal::unless(!c.is_in_range()) else {
+        return Err(Refusal::OutOfRange);
     };
-    let Step::On = refusal::unless(too_light(c)) else {
-        return refused(Refusal::TooLight);
+    let Some(()) = refusal::unless(c.is_too_light()) else {
+        return Err(Refusal::TooLight);
     };
     let behind = &s[Consist::SIZE..];
-    let Step::On = refusal::unless(blocks::is_broken(behind, c.length, c.weight)) else {
-        return refused(Refusal::BrokenBlocks);
+    let Some(()) = refusal::unless(blocks::is_broken(behind, c.length, c.weight)) else {
+        return Err(Refusal::BrokenBlocks);
     };
-    let consist = c.with_blocks(Blocks::laid(behind));
-    Answer {
-        verdict: Verdict::Accepted,
-        consist,
-    }
-}
-
-// The first five fields. The bytes before the blocks are put in two parts, each short enough to be put without a loop.
-fn put_front(c: Consist, out: &mut [u8])
-    ensures { out.new ≡ put_from 0 (take 5 widths) (take 5 (fields_of c)) out.old }
-{
-    let widths = [9, 11, 15, 15, 24];
-    let values = [
-        c.cars as u64,
-        c.axles as u64,
-        c.weight as u64,
-        c.length as u64,
-        c.rated as u64,
-    ];
-    bits::put_fields(out, 0, &widths, &values);
-}
-
-// The other four.
-fn put_back(c: Consist, out: &mut [u8])
-    ensures { out.new ≡ put_from 74 (drop 5 widths) (drop 5 (fields_of c)) out.old }
-{
-    let widths = [18, 10, 14, 12];
-    let values = [
-        c.application as u64,
-        c.recharge as u64,
-        c.set as u64,
-        c.offset as u64,
-    ];
-    bits::put_fields(out, 74, &widths, &values);
+    Ok(c.with_blocks(Blocks::laid(behind)))
 }
 
 // Writes the record to the front of `out`.
 pub fn write(c: Consist, out: &mut [u8]) -> Verdict
     ensures { told (result, out.new) ≡ told (write_consist c out.old) }
 {
-    let Step::On = refusal::unless(!in_range(c)) else {
-        return Verdict::Refused(Refusal::OutOfRange);
+    let Some(()) = refusal::unless(!c.is_in_range()) else {
+        return Err(Refusal::OutOfRange);
     };
-    let Step::On = refusal::unless(too_light(c)) else {
-        return Verdict::Refused(Refusal::TooLight);
+    let Some(()) = refusal::unless(c.is_too_light()) else {
+        return Err(Refusal::TooLight);
     };
-    let Step::On = refusal::unless(out.len() < c.size()) else {
-        return Verdict::Refused(Refusal::NoRoom);
+    let Some(()) = refusal::unless(out.len() < c.size()) else {
+        return Err(Refusal::NoRoom);
     };
-    let Step::On = refusal::unless(!sound_blocks(c)) else {
-        return Verdict::Refused(Refusal::BrokenBlocks);
+    let Some(()) = refusal::unless(!c.has_sound_blocks()) else {
+        return Err(Refusal::BrokenBlocks);
     };
-    put_front(c, out);
-    put_back(c, out);
-    let b = c.blocks;
-    blocks::put(b, &mut out[Consist::SIZE..]);
-    Verdict::Accepted
+    c.put_front(out);
+    c.put_back(out);
+    blocks::put(c.blocks, &mut out[Consist::SIZE..]);
+    Ok(())
 }

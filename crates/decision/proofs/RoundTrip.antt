@@ -14,8 +14,7 @@ use Rattle.bits.proofs.Bit.{of_bit, to_bit}
 use Rattle.refusal.specs.Lowest.{lowest}
 use Rattle.refusal.specs.Steps.{kept}
 use Rattle.refusal.specs.Written.{written}
-use Rattle.refusal.specs.declared.Verdict.{Verdict}
-use Rattle.refusal.specs.declared.Verdict.TheVariants.{Accepted}
+use Rattle.refusal.specs.Verdict.{Verdict, Accepted}
 use Rattle.refusal.proofs.Order.{accepted, last_passed, append_passed, append_accepted, written_accepted}
 use Rattle.record.proofs.RoundTrip.{write_accepted, written_back, accepted_back}
 use Rattle.decision.specs.declared.Decision.{Decision}

@@ -3,12 +3,13 @@
 
 ghost use Rattle.std.specs.Prelude.{◌≡◌};
 ghost use Rattle.bits.specs.Places.{fields_from, put_from};
-ghost use Rattle.refusal.specs.Number.{told};
-ghost use Rattle.decision.specs.Decision.{widths, mark_of, fields_of, of_fields, out_of_range, refused_with, read_decision, write_decision, write_both};
+ghost use Rattle.refusal.specs.Number.{told, answer_of};
+ghost use Rattle.decision.specs.Decision.{widths, mark_of, fields_of, of_fields, out_of_range, none, read_decision, write_decision, write_both};
 
-use refusal::{Refusal, Step, Verdict};
+use refusal::{Refusal, Verdict};
 
-#[derive(Clone, Copy)]
+// Flags beside numbers, and numbers for none: `out_of_range` tells of a penalty and a cause that don't agree, and `write` refuses them.
+#[derive(Clone, Copy, Debug, PartialEq, Eq)]
 pub struct Decision {
     // the second record of a sample call, where penalty, cause and stop are the emergency's
     pub emergency: bool,
@@ -33,32 +34,48 @@ impl Decision {
     pub const MARK: u64 = 0x44;
 
     pub const EMERGENCY_MARK: u64 = 0x45;
+
+    #[tactic(auto, unfolding(crate::specs::Decision::out_of_range))]
+    fn is_out_of_range(&self) -> bool
+        ensures { result ≡ out_of_range self.now }
+    {
+        (self.time >= 0x100_0000)
+            | (self.state > 5)
+            | (self.cause > 8)
+            | (self.penalty != (self.cause != 0))
+            | !((self.stop <= record::FARTHEST) | (self.stop == record::NO_STOP))
+    }
+
+    // All records are put by `bits::put_fields`, which takes widths beside values: those are each record's own.
+    fn put(&self, out: &mut [u8])
+        ensures { out.new ≡ put_from 0 widths (fields_of self.now) out.old }
+    {
+        let widths = [8, 24, 3, 1, 4, 24];
+        let values = [
+            mark_of(self.emergency),
+            self.time as u64,
+            self.state as u64,
+            self.penalty as u64,
+            self.cause as u64,
+            self.stop as u64,
+        ];
+        bits::put_fields(out, 0, &widths, &values);
+    }
 }
 
-// What reading a decision answers; where it is refused, the decision is all zero.
-#[derive(Clone, Copy)]
-pub struct Answer {
-    pub verdict: Verdict,
-    pub decision: Decision,
-}
-
-fn refused(r: Refusal) -> Answer
-    ensures { (result.verdict, result.decision) ≡ refused_with r }
+// No `From`: both types are std's.
+fn mark_of(emergency: bool) -> u64
+    ensures { result ≡ mark_of emergency }
 {
-    Answer {
-        verdict: Verdict::Refused(r),
-        decision: Decision {
-            emergency: false,
-            time: 0,
-            state: 0,
-            penalty: false,
-            cause: 0,
-            stop: 0,
-        },
+    if emergency {
+        Decision::EMERGENCY_MARK
+    } else {
+        Decision::MARK
     }
 }
 
 // The decision of a record's bits, whatever the mark: one that is wrong counts as the first record's.
+// All records are read by `bits::field`: names, places and types are each one's own.
 fn of_bytes(s: &[u8]) -> Decision
     ensures { result ≡ of_fields (fields_from 0 widths s.now) }
 {
@@ -72,87 +89,49 @@ fn of_bytes(s: &[u8]) -> Decision
     }
 }
 
-fn out_of_range(d: Decision) -> bool
-    ensures { result ≡ out_of_range d }
+pub fn read(s: &[u8]) -> Result<Decision, Refusal>
+    ensures { told (answer_of none result) ≡ told (read_decision s.now) }
 {
-    (d.time >= 0x100_0000)
-        | (d.state > 5)
-        | (d.cause > 8)
-        | (d.penalty != (d.cause != 0))
-        | !((d.stop <= record::FARTHEST) | (d.stop == record::NO_STOP))
-}
-
-pub fn read(s: &[u8]) -> Answer
-    ensures { told (result.verdict, result.decision) ≡ told (read_decision s.now) }
-{
-    let Step::On = refusal::unless(s.len() != Decision::SIZE) else {
-        return refused(Refusal::WrongLength);
+    let Some(()) = refusal::unless(s.len() != Decision::SIZE) else {
+        return Err(Refusal::WrongLength);
     };
     let mark = bits::field(s, 0, 8);
     let right = (mark == Decision::MARK) | (mark == Decision::EMERGENCY_MARK);
-    let Step::On = refusal::unless(!right) else {
-        return refused(Refusal::WrongMark);
+    let Some(()) = refusal::unless(!right) else {
+        return Err(Refusal::WrongMark);
     };
     let d = of_bytes(s);
-    let Step::On = refusal::unless(out_of_range(d)) else {
-        return refused(Refusal::OutOfRange);
+    let Some(()) = refusal::unless(d.is_out_of_range()) else {
+        return Err(Refusal::OutOfRange);
     };
-    Answer {
-        verdict: Verdict::Accepted,
-        decision: d,
-    }
-}
-
-fn mark_of(emergency: bool) -> u64
-    ensures { result ≡ mark_of emergency }
-{
-    if emergency {
-        Decision::EMERGENCY_MARK
-    } else {
-        Decision::MARK
-    }
-}
-
-fn put(d: Decision, out: &mut [u8])
-    ensures { out.new ≡ put_from 0 widths (fields_of d) out.old }
-{
-    let widths = [8, 24, 3, 1, 4, 24];
-    let values = [
-        mark_of(d.emergency),
-        d.time as u64,
-        d.state as u64,
-        d.penalty as u64,
-        d.cause as u64,
-        d.stop as u64,
-    ];
-    bits::put_fields(out, 0, &widths, &values);
+    Ok(d)
 }
 
 // Writes the record to the first 8 bytes of `out`.
 pub fn write(d: Decision, out: &mut [u8]) -> Verdict
     ensures { told (result, out.new) ≡ told (write_decision d out.old) }
 {
-    let Step::On = refusal::unless(out_of_range(d)) else {
-        return Verdict::Refused(Refusal::OutOfRange);
+    let Some(()) = refusal::unless(d.is_out_of_range()) else {
+        return Err(Refusal::OutOfRange);
     };
-    let Step::On = refusal::unless(out.len() < Decision::SIZE) else {
-        return Verdict::Refused(Refusal::NoRoom);
+    let Some(()) = refusal::unless(out.len() < Decision::SIZE) else {
+        return Err(Refusal::NoRoom);
     };
-    put(d, out);
-    Verdict::Accepted
+    d.put(out);
+    Ok(())
 }
 
-// Writes a sample call's two records to the first 16 bytes of `out`.
+// Writes a sample call's two records to the first 16 bytes of `out`. Not `write` twice: nothing is put where the second is refused.
 pub fn write_both(first: Decision, second: Decision, out: &mut [u8]) -> Verdict
     ensures { told (result, out.new) ≡ told (write_both first second out.old) }
 {
-    let Step::On = refusal::unless(out_of_range(first) | out_of_range(second)) else {
-        return Verdict::Refused(Refusal::OutOfRange);
+    let Some(()) = refusal::unless(first.is_out_of_range() | second.is_out_of_range()) else {
+        return Err(Refusal::OutOfRange);
     };
-    let Step::On = refusal::unless(out.len() < Decision::BOTH) else {
-        return Verdict::Refused(Refusal::NoRoom);
+    let Some(()) = refusal::unless(out.len() < Decision::BOTH) else {
+        return Err(Refusal::NoRoom);
     };
-    put(first, out);
-    put(second, &mut out[Decision::SIZE..]);
-    Verdict::Accepted
+    first.put(out);
+    second.put(&mut out[Decision::SIZE..]);
+    Ok(())
 }

@@ -8,8 +8,7 @@ use Rattle.refusal.specs.Number.{number_of_verdict}
 use Rattle.refusal.specs.Steps.{kept}
 use Rattle.refusal.specs.Written.{written}
 use Rattle.refusal.specs.declared.Refusal.TheVariants.{NoSession}
-use Rattle.refusal.specs.declared.Verdict.{Verdict}
-use Rattle.refusal.specs.declared.Verdict.TheVariants.{Accepted, Refused}
+use Rattle.refusal.specs.Verdict.{Verdict, Accepted, Refused}
 use Rattle.refusal.proofs.Order.{given, passed}
 use Rattle.refusal.proofs.Numbers.{one_first}
 use Rattle.session.specs.declared.Session.{Session}

@@ -1,9 +1,15 @@
 -- Each public call is as defined: its contract says so, told by number and value, and different answers are told differently. Assumes nothing.
-use mathlib.Core.Path.{◌≡◌, sym, ap, ◌∙◌}
+use mathlib.Core.Path.{◌≡◌, refl, sym, ap, ◌∙◌}
 use mathlib.Core.List.{List}
 use Prim.Native.Nat.{ℕ}
-use Rattle.refusal.specs.declared.Verdict.{Verdict}
-use Rattle.refusal.proofs.Numbers.{told_one}
+use Rattle.std.specs.Prelude.{Result, Ok, Err}
+use Rattle.refusal.specs.Number.{answer_of}
+use Rattle.refusal.specs.declared.Refusal.{Refusal}
+use Rattle.session.specs.declared.Session.{Session}
+use Rattle.session.specs.Session.{Answer}
+use Rattle.held.proofs.Answers.{read_tells}
+use Rattle.refusal.specs.Verdict.{Verdict}
+use Rattle.refusal.proofs.Numbers.{told_one, result_is}
 use Rattle.consist.specs.declared.Consist.{Consist}
 use Rattle.sample.specs.declared.RawSample.{RawSample}
 use Rattle.sample.specs.declared.Sample.{Sample}
@@ -48,29 +54,29 @@ pub calls : Calls
 unfolding computing read_sample consist_written manifest_written consist_judged profile_written profile_judged targets_written targets_judged sample_judged
 calls = record {
   refusal_unless = plain (λ M. refusal.unless.Met.met) (λ l a r x p. p);
-  refusal_number = plain (λ M. refusal.number.Met.met) (λ l a r x p. p);
+  refusal_number = plain (λ M. refusal.Refusal.number.Met.met) (λ l a r x p. p);
   refusal_verdict_number = plain (λ M. refusal.verdict_number.Met.met) (λ l a r x p. p);
-  consist_read = plain (λ M. consist.read.Met.met) (λ l a r x p. ap (λ ((v, c) : Verdict × Consist). record { verdict = v; consist = c }) (told_one _ _ p));
+  consist_read = plain (λ M. consist.read.Met.met) (λ l a r x p. result_is _ _ _ (told_one _ _ p));
   consist_is_sound = plain (λ M. consist.is_sound.Met.met) (λ l a r x p. p);
   consist_write = call (λ M. consist.write.Met.met) (λ l a r x p. told_one _ _ p);
-  profile_judge = plain (λ M. profile.judge.Met.met) (λ l a r x p. ap (λ ((v, n) : Verdict × ℕ). record { verdict = v; records = n }) (told_one _ _ p));
+  profile_judge = plain (λ M. profile.judge.Met.met) (λ l a r x p. result_is _ _ _ (told_one _ _ p));
   profile_segment_at = plain (λ M. profile.segment_at.Met.met) (λ l a r x p. p);
   profile_write = call (λ M. profile.write.Met.met) (λ l a r x p. told_one _ _ p);
-  targets_judge = plain (λ M. targets.judge.Met.met) (λ l a r x p. ap (λ ((v, n) : Verdict × ℕ). record { verdict = v; records = n }) (told_one _ _ p));
+  targets_judge = plain (λ M. targets.judge.Met.met) (λ l a r x p. result_is _ _ _ (told_one _ _ p));
   targets_target_at = plain (λ M. targets.target_at.Met.met) (λ l a r x p. p);
   targets_write = call (λ M. targets.write.Met.met) (λ l a r x p. told_one _ _ p);
-  sample_lay_out = plain (λ M. sample.lay_out.Met.met) (λ l a r x p. ap (λ ((v, raw) : Verdict × RawSample). record { verdict = v; raw = raw }) (sample_told.answer_one _ _ p));
-  sample_judge = plain (λ M. sample.judge.Met.met) (λ l a r x p. ap (λ ((v, m) : Verdict × Sample). record { verdict = v; sample = m }) (sample_told.judged_one _ _ p));
-  sample_read = plain (λ M. sample.read.Met.met) (λ l a r x p. ap (λ ((v, raw) : Verdict × RawSample). record { verdict = v; raw = raw }) (sample_told.answer_one _ _ p));
+  sample_lay_out = plain (λ M. sample.lay_out.Met.met) (λ l a r x p. result_is _ _ _ (sample_told.answer_one _ _ p));
+  sample_judge = plain (λ M. sample.judge.Met.met) (λ l a r x p. result_is _ _ _ (sample_told.judged_one _ _ p));
+  sample_read = plain (λ M. sample.read.Met.met) (λ l a r x p. result_is _ _ _ (sample_told.answer_one _ _ p));
   sample_write = call (λ M. sample.write.Met.met) (λ l a r x p. told_one _ _ p);
-  decision_read = plain (λ M. decision.read.Met.met) (λ l a r x p. ap (λ ((v, d) : Verdict × Decision). record { verdict = v; decision = d }) (told_one _ _ p));
+  decision_read = plain (λ M. decision.read.Met.met) (λ l a r x p. result_is _ _ _ (told_one _ _ p));
   decision_write = call (λ M. decision.write.Met.met) (λ l a r x p. told_one _ _ p);
   session_none = plain (λ M. session.none.Met.met) (λ l a r x p. session_told.session_one _ _ p);
   session_is_open = plain (λ M. session.is_open.Met.met) (λ l a r x p. p);
-  session_open = plain (λ M. session.open.Met.met) (λ l a r x p. session_told.answer_one _ _ p);
-  session_sample = call (λ M. sampling.sample.Met.met) (λ l a r x p. session_told.call_one _ _ p);
-  held_read = plain (λ M. held.read.Met.met) (λ l a r x p. session_told.answer_one _ _ p);
-  held_read_start = plain (λ M. held.read_start.Met.met) (λ l a r x p. session_told.answer_one _ _ p);
+  session_open = call (λ M. session.open.Met.met) (λ l a r x p. ap {B = Verdict × Session} (λ (y : Answer). (y.verdict, y.session)) (session_told.answer_one _ _ p));
+  session_sample = call (λ M. sampling.sample.Met.met) (λ l a r x p. ap {B = Verdict × (Session × List ℕ)} (λ (y : Answer × List ℕ). (y.0.verdict, (y.0.session, y.1))) (session_told.call_one _ _ p));
+  held_read = plain (λ M. held.read.Met.met) (λ l a r x p. result_is _ _ _ (read_tells _ _ p));
+  held_read_start = plain (λ M. held.read_start.Met.met) (λ l a r x p. result_is _ _ _ (read_tells _ _ p));
   stored_write = call (λ M. stored.write.Met.met) (λ l a r x p. told_one _ _ p);
   lent_open = call (λ M. lent.open.Met.met) (λ l a r x p. p);
   lent_sample = call (λ M. lent.sample.Met.met) (λ l a r x p. ap {B = ℕ × (List ℕ × List ℕ)} (λ ((n, x, d) : Sampled). (n, (x, d))) p);

@@ -7,8 +7,7 @@ use Rattle.refusal.specs.Steps.{kept}
 use Rattle.refusal.specs.Written.{written}
 use Rattle.refusal.specs.declared.Refusal.{Refusal}
 use Rattle.refusal.specs.declared.Refusal.TheVariants.{NoSession}
-use Rattle.refusal.specs.declared.Verdict.{Verdict}
-use Rattle.refusal.specs.declared.Verdict.TheVariants.{Accepted, Refused}
+use Rattle.refusal.specs.Verdict.{Verdict, Accepted, Refused}
 use Rattle.refusal.proofs.Order.{given}
 use Rattle.decision.specs.declared.Decision.{Decision}
 use Rattle.session.specs.declared.Session.{Session}

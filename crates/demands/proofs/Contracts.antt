@@ -15,8 +15,7 @@ use Rattle.bits.specs.Bytes.{Bytes}
 use Rattle.bits.proofs.Bytes.{bytes_take, bytes_drop}
 use Rattle.refusal.specs.Steps.{kept}
 use Rattle.refusal.specs.declared.Refusal.{Refusal}
-use Rattle.refusal.specs.declared.Verdict.{Verdict}
-use Rattle.refusal.specs.declared.Verdict.TheVariants.{Accepted, Refused}
+use Rattle.refusal.specs.Verdict.{Verdict, Accepted, Refused}
 use Rattle.refusal.specs.Lowest.{lowest}
 use Rattle.refusal.specs.Number.{number_of_verdict}
 use Rattle.refusal.specs.Written.{no_room, written}
@@ -39,8 +38,7 @@ use Rattle.brake.specs.declared.Choice.TheVariants.{FiveSeconds, Everlasting}
 use Rattle.brake.specs.Rear.{choice_of}
 use Rattle.brake.proofs.Rear.{choice_most}
 use Rattle.session.specs.declared.Session.{Session}
-use Rattle.session.specs.declared.Answer.{Answer}
-use Rattle.session.specs.Session.{is_open, none_open, session_told, call_told}
+use Rattle.session.specs.Session.{Answer, is_open, none_open, session_told, answer_told, call_told}
 use Rattle.session.specs.Open.{open_of, opened_with, opened_by}
 use Rattle.sampling.specs.Sample.{sample_call}
 use Rattle.sampling.specs.Laws.{Lent}
@@ -116,13 +114,18 @@ lent bytes = record { ref_ptr = (0, 0); now = bytes }
 unfoldable pub lent_mut : List ℕ → MutBor (List ℕ)
 lent_mut bytes = record { ref_ptr = (0, 0); ghost_name = 0; now = bytes }
 
+unfoldable pub lent_session : Session → MutBor Session
+lent_session x = record { ref_ptr = (0, 0); ghost_name = 0; now = x }
+
 pub program_meets : (x : Session) → Unopened by_value x → program.Meets (our_program x)
 program_meets x u = record {
   none = λ κs a y. ap session_told u.1;
-  opens = λ κs a y f s. refl;
-  samples = λ κs a y f s h.
-      let r = ours.samples a.0 (program.lent_to κs a) in
-      ap (λ (l : List ℕ). call_told (record { session = r.state; verdict = r.told }, l)) h;
+  opens = λ κs a y f s h.
+      let r = ours.opens a.0.now a.1.0.now a.1.1.0 in
+      ap (λ (z : Session). answer_told (record { session = z; verdict = r.0 })) h;
+  samples = λ κs a y f s h g.
+      let r = ours.samples a.0.now (program.lent_to κs a) in
+      ap₂ (λ (z : Session) (l : List ℕ). call_told (record { session = z; verdict = r.told }, l)) h g;
 }
 
 settled : (v : Verdict) (old new : Session) → ((r : Refusal) → v ≡ Refused r → new ≡ old) → new ≡ kept v new old
@@ -139,16 +142,17 @@ module _ (m : Machine Session Verdict) (met : program.Meets m) where
       (subst FitsWords (sym e) fits, e)
 
   program_same : (x : Session) → FitsWords x → (k : Call) → Lends k → call m x k ≡ call ours x k
-  unfolding lent lent_mut
+  unfolding lent lent_mut lent_session
   program_same x f (opening s choice) b =
+      let r = m.opens x s choice in
       ap {B = Reply Session Verdict} (λ (a : Answer). record { told = a.verdict; state = a.session; out = [] })
-      (answer_one _ (open_of x s choice) (met.opens ([], tt) (x, (lent s, (choice, tt))) (x, (lent s, (choice, tt))) f b))
+      (answer_one _ (open_of x s choice) (met.opens ([], ([], tt)) (lent_session x, (lent s, (choice, tt))) (lent_session r.1, (lent s, (choice, tt))) f b refl))
   program_same x f (sampling l) b =
       let r = m.samples x l in
       ap {B = Reply Session Verdict} (λ (a : Answer × List ℕ). record { told = a.0.verdict; state = a.0.session; out = a.1 })
       (call_one _ (sample_call x l.sample l.profile l.targets l.out)
-      (met.samples ([], ([], ([], ([], tt)))) (x, (lent l.sample, (lent l.profile, (lent l.targets, (lent_mut l.out, tt)))))
-      (x, (lent l.sample, (lent l.profile, (lent l.targets, (lent_mut r.out, tt))))) f b refl))
+      (met.samples ([], ([], ([], ([], ([], tt))))) (lent_session x, (lent l.sample, (lent l.profile, (lent l.targets, (lent_mut l.out, tt)))))
+      (lent_session r.state, (lent l.sample, (lent l.profile, (lent l.targets, (lent_mut r.out, tt))))) f b refl refl))
 
   pub program_does : Does by_value m
   program_does z x o k b =
@@ -193,7 +197,7 @@ library_meets z u = record {
 module _ (m : Machine (List ℕ) ℕ) (met : library.Meets m) where
   -- it replies as ours, however short the session's bytes
   library_same : (z : List ℕ) → Slice z → (k : Call) → Lends k → call m z k ≡ call (our_library z) z k
-  unfolding lent lent_mut
+  unfolding lent lent_mut lent_session
   library_same z f (opening s FiveSeconds) b =
       ap {B = Reply (List ℕ) ℕ} (λ (r : ℕ × List ℕ). record { told = r.0; state = r.1; out = [] })
       (met.opens ([], ([], tt)) (lent_mut z, (lent s, tt)) (lent_mut (m.opens z s FiveSeconds).1, (lent s, tt)) f b refl)

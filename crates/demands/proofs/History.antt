@@ -8,8 +8,7 @@ use borrow.Author.Tests.{ne_eqb}
 use Rattle.refusal.specs.Lowest.{lowest}
 use Rattle.refusal.specs.Steps.{kept}
 use Rattle.refusal.specs.Written.{written}
-use Rattle.refusal.specs.declared.Verdict.{Verdict}
-use Rattle.refusal.specs.declared.Verdict.TheVariants.{Accepted, Refused}
+use Rattle.refusal.specs.Verdict.{Verdict, Accepted, Refused}
 use Rattle.refusal.proofs.Order.{passed}
 use Rattle.consist.specs.Consist.{consist_in, read_rules, read_consist, answer}
 use Rattle.sample.specs.declared.Sample.{Sample}
@@ -23,8 +22,7 @@ use Rattle.brake.specs.declared.Choice.{Choice}
 use Rattle.learn.specs.Suffices.{Suffices}
 use Rattle.learn.proofs.Suffices.{suffices}
 use Rattle.session.specs.declared.Session.{Session}
-use Rattle.session.specs.declared.Answer.{Answer}
-use Rattle.session.specs.Session.{is_open}
+use Rattle.session.specs.Session.{Answer, is_open}
 use Rattle.session.specs.Open.{open_of, opened_by}
 use Rattle.sampling.specs.Sample.{sample_in, prediction, cause_after, emergency_after, decision_of, emergency_decision_of, rules}
 use Rattle.sampling.specs.Laws.{Lent}

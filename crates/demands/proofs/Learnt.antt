@@ -10,7 +10,7 @@ use borrow.Author.Tests.{leb-true, not-false}
 use Rattle.bits.proofs.Ranges.{and-true_left}
 use Rattle.sample.specs.declared.RearPressure.{RearPressure}
 use Rattle.sample.specs.declared.RearPressure.TheVariants.{Present, Lost}
-use Rattle.trend.specs.declared.Learnt.TheVariants.{Time}
+use Rattle.trend.specs.Result.{Time}
 use Rattle.trend.specs.Points.{Point}
 use Rattle.learn.specs.declared.Shown.{Shown}
 use Rattle.learn.specs.declared.Lesson.{Lesson as Kept}

@@ -9,14 +9,13 @@ use borrow.Author.Tests.{leb-true, leb-false, lt-ltb, le-ltb, not-false}
 use Rattle.bits.proofs.Ranges.{and-true_left}
 use Rattle.refusal.specs.Lowest.{lowest}
 use Rattle.refusal.specs.Steps.{kept}
-use Rattle.refusal.specs.declared.Verdict.{Verdict}
-use Rattle.refusal.specs.declared.Verdict.TheVariants.{Accepted, Refused}
+use Rattle.refusal.specs.Verdict.{Verdict, Accepted, Refused}
 use Rattle.consist.specs.Consist.{consist_in, read_rules}
 use Rattle.sample.specs.declared.Sample.{Sample}
 use Rattle.sample.specs.declared.RearPressure.{RearPressure}
 use Rattle.sample.specs.declared.RearPressure.TheVariants.{Present, Lost}
 use Rattle.brake.specs.declared.Choice.TheVariants.{FiveSeconds}
-use Rattle.brake.specs.declared.Heard.{Heard}
+use Rattle.brake.specs.Rear.{Heard}
 use Rattle.brake.specs.declared.Brake.{Brake}
 use Rattle.reading.specs.Readings.{heard_after, is_kept, lost_rear, rear_taken, reading_of}
 use Rattle.update.specs.Rules.{update_of}

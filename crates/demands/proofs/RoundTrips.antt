@@ -15,8 +15,7 @@ use Rattle.blocks.specs.Blocks.{of_lists}
 use Rattle.bits.specs.Tables.{up_to}
 use Rattle.bits.proofs.UpTo.{length-up_to, get_or_up_to}
 use Rattle.refusal.specs.declared.Refusal.TheVariants.{WrongLength}
-use Rattle.refusal.specs.declared.Verdict.{Verdict}
-use Rattle.refusal.specs.declared.Verdict.TheVariants.{Accepted, Refused}
+use Rattle.refusal.specs.Verdict.{Verdict, Accepted, Refused}
 use Rattle.refusal.specs.Lowest.{Rule, lowest}
 use Rattle.refusal.specs.Number.{told}
 use Rattle.refusal.specs.Written.{written}

@@ -12,8 +12,7 @@ use denote.Ref.{Bor}
 use Rattle.bits.specs.Bytes.{Bytes}
 use Rattle.bits.proofs.Ranges.{and-true_left, and-true_right}
 use Rattle.refusal.specs.declared.Refusal.TheVariants.{WrongTime}
-use Rattle.refusal.specs.declared.Verdict.{Verdict}
-use Rattle.refusal.specs.declared.Verdict.TheVariants.{Accepted, Refused}
+use Rattle.refusal.specs.Verdict.{Verdict, Accepted, Refused}
 use Rattle.targets.specs.Targets.{most, speeds_in}
 use Rattle.decision.specs.declared.Decision.{Decision}
 use Rattle.decision.specs.Decision.{size, read_decision}
@@ -182,28 +181,11 @@ walk_repeats_step w meets k =
     let asked = walkable x.consist (brake_after standing m) m l.profile (predictable standing m l.profile admitted) in
     let curve = penalty_curve x.consist x.a x.b in
     let speeds = speeds_in l.targets most in
-    let r = x.track in
-    let totals = totals_of r in
     let given : ArgsD signature ([], tt) = (
       x.consist,
-      (
-        curve,
-        (
-          r.count,
-          (
-            lend r.starts,
-            (
-              lend r.grades,
-              (
-                lend r.curvatures,
-                (lend totals.grades, (lend totals.curvatures, (x.head, (x.speed, (speeds, tt))))),
-              ),
-            ),
-          ),
-        ),
-      ),
+      (curve, (record { track = lend x.track; totals = lend (totals_of x.track); summed = refl }, (x.head, (x.speed, (speeds, tt))))),
     ) in
-    let found = ap (λ (f : Prediction). f.stop) (meets ([], tt) given given (asked, refl)) in
+    let found = ap (λ (f : Prediction). f.stop) (meets ([], tt) given given asked) in
     let z : ◌≡◌ {A = ℕ} 5032 5048 =
     sym computed.stop ∙ sym found ∙ k x.consist curve x.track x.head x.speed speeds asked ∙ computed.stop_again_lem in
     omega arith

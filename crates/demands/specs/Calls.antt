@@ -1,8 +1,11 @@
 -- Each public call once: its contract, as the check reads it from the source, is one equation with a definition, and no second answer satisfies it.
 -- Statements; proofs/Calls.antt proves them.
-use Rattle.std.specs.Prelude.{◌≡◌, List, [], ◌∷◌, ℕ}
-use Rattle.refusal.specs.Number.{number_of, number_of_verdict, told}
+use Rattle.std.specs.Prelude.{◌≡◌, Result, Ok, Err, List, [], ◌∷◌, ℕ}
+use Rattle.refusal.specs.Number.{number_of, number_of_verdict, told, result_of}
 use Rattle.refusal.specs.Steps.{step_of}
+use Rattle.refusal.specs.Verdict.{Verdict, Accepted, Refused}
+use Rattle.refusal.specs.declared.Refusal.{Refusal}
+use Rattle.session.specs.declared.Session.{Session}
 use Rattle.consist.specs.Consist.{is_sound, of_fields, read_consist, write_consist}
 use Rattle.profile.specs.Profile.{judge_profile, segment_at, write_profile}
 use Rattle.targets.specs.Targets.{judge_targets, target_at, write_targets}
@@ -59,20 +62,20 @@ pub record Calls : Type 2 where
   pub refusal_unless : PlainCall refusal.unless.Statement.statement refusal.unless.Reads.Asked refusal.unless.Reads.Post
       (λ l (broken, _). step_of broken)
   -- the number that a refusal, and a verdict, carries
-  pub refusal_number : PlainCall refusal.number.Statement.statement refusal.number.Reads.Asked refusal.number.Reads.Post
+  pub refusal_number : PlainCall refusal.Refusal.number.Statement.statement refusal.Refusal.number.Reads.Asked refusal.Refusal.number.Reads.Post
       (λ l (r, _). number_of r)
   pub refusal_verdict_number : PlainCall refusal.verdict_number.Statement.statement refusal.verdict_number.Reads.Asked refusal.verdict_number.Reads.Post
       (λ l (v, _). number_of_verdict v)
   -- the consist: reader, test, writer
   pub consist_read : PlainCall consist.read.Statement.statement consist.read.Reads.Asked consist.read.Reads.Post
-      (λ l (s, _). let (v, c) = read_consist s.now in record { verdict = v; consist = c })
+      (λ l (s, _). result_of (read_consist s.now))
   pub consist_is_sound : PlainCall consist.is_sound.Statement.statement consist.is_sound.Reads.Asked consist.is_sound.Reads.Post
       (λ l (c, _). is_sound c)
   pub consist_write : PublicCall consist.write.Statement.statement consist.write.Reads.Asked consist.write.Reads.Post
       (λ l (_, (out, _)). out.now) (λ l (c, (out, _)). write_consist c out.now)
   -- the profile: judge, one record, writer
   pub profile_judge : PlainCall profile.judge.Statement.statement profile.judge.Reads.Asked profile.judge.Reads.Post
-      (λ l (p, _). let (v, n) = judge_profile p.now in record { verdict = v; records = n })
+      (λ l (p, _). result_of (judge_profile p.now))
   pub profile_segment_at : PlainCall profile.segment_at.Statement.statement profile.segment_at.Reads.Asked profile.segment_at.Reads.Post
       (λ l (p, (k, _)). segment_at p.now k)
   pub profile_write : PublicCall profile.write.Statement.statement profile.write.Reads.Asked profile.write.Reads.Post
@@ -80,40 +83,41 @@ pub record Calls : Type 2 where
       (λ l (starts, (grades, (curvatures, (out, _)))). write_profile starts.now grades.now curvatures.now out.now)
   -- the targets: judge, one record, writer
   pub targets_judge : PlainCall targets.judge.Statement.statement targets.judge.Reads.Asked targets.judge.Reads.Post
-      (λ l (t, _). let (v, n) = judge_targets t.now in record { verdict = v; records = n })
+      (λ l (t, _). result_of (judge_targets t.now))
   pub targets_target_at : PlainCall targets.target_at.Statement.statement targets.target_at.Reads.Asked targets.target_at.Reads.Post
       (λ l (t, (k, _)). target_at t.now k)
   pub targets_write : PublicCall targets.write.Statement.statement targets.write.Reads.Asked targets.write.Reads.Post
       (λ l (_, (_, (out, _))). out.now) (λ l (locations, (speeds, (out, _))). write_targets locations.now speeds.now out.now)
   -- the sample: layout, judgement of the readings, reader, writer
   pub sample_lay_out : PlainCall sample.lay_out.Statement.statement sample.lay_out.Reads.Asked sample.lay_out.Reads.Post
-      (λ l (s, _). let (v, raw) = lay_out s.now in record { verdict = v; raw = raw })
+      (λ l (s, _). result_of (lay_out s.now))
   pub sample_judge : PlainCall sample.judge.Statement.statement sample.judge.Reads.Asked sample.judge.Reads.Post
-      (λ l (raw, _). let (v, m) = judge_sample raw in record { verdict = v; sample = m })
+      (λ l (raw, _). result_of (judge_sample raw))
   pub sample_read : PlainCall sample.read.Statement.statement sample.read.Reads.Asked sample.read.Reads.Post
-      (λ l (s, _). let (v, raw) = read_sample s.now in record { verdict = v; raw = raw })
+      (λ l (s, _). result_of (read_sample s.now))
   pub sample_write : PublicCall sample.write.Statement.statement sample.write.Reads.Asked sample.write.Reads.Post
       (λ l (_, (out, _)). out.now) (λ l (raw, (out, _)). write_sample raw out.now)
   -- the decision: reader, writer
   pub decision_read : PlainCall decision.read.Statement.statement decision.read.Reads.Asked decision.read.Reads.Post
-      (λ l (s, _). let (v, d) = read_decision s.now in record { verdict = v; decision = d })
+      (λ l (s, _). result_of (read_decision s.now))
   pub decision_write : PublicCall decision.write.Statement.statement decision.write.Reads.Asked decision.write.Reads.Post
       (λ l (_, (out, _)). out.now) (λ l (d, (out, _)). write_decision d out.now)
-  -- the session, by value: before any opening, the test, an opening, a sample
+  -- the session: before any opening, the test; lent, an opening and a sample
   pub session_none : PlainCall session.none.Statement.statement session.none.Reads.Asked session.none.Reads.Post
       (λ l _. none_open)
   pub session_is_open : PlainCall session.is_open.Statement.statement session.is_open.Reads.Asked session.is_open.Reads.Post
       (λ l (x, _). is_open x)
-  pub session_open : PlainCall session.open.Statement.statement session.open.Reads.Asked session.open.Reads.Post
-      (λ l (x, (s, (choice, _))). open_of x s.now choice)
+  pub session_open : PublicCall session.open.Statement.statement session.open.Reads.Asked session.open.Reads.Post
+      (λ l (x, _). x.now)
+      (λ l (x, (s, (choice, _))). let a = open_of x.now s.now choice in (a.verdict, a.session))
   pub session_sample : PublicCall sampling.sample.Statement.statement sampling.sample.Reads.Asked sampling.sample.Reads.Post
-      (λ l (_, (_, (_, (_, (out, _))))). out.now)
-      (λ l (x, (s, (p, (t, (out, _))))). sample_call x s.now p.now t.now out.now)
+      {Lent = Session × List ℕ} (λ l (x, (_, (_, (_, (out, _))))). (x.now, out.now))
+      (λ l (x, (s, (p, (t, (out, _))))). let a = sample_call x.now s.now p.now t.now out.now in (a.0.verdict, (a.0.session, a.1)))
   -- the session's record: reader, of all bytes and of those that others begin with; writer
   pub held_read : PlainCall held.read.Statement.statement held.read.Reads.Asked held.read.Reads.Post
-      (λ l (s, _). let (v, x) = read_session s.now in record { verdict = v; session = x })
+      (λ l (s, _). result_of (read_session s.now))
   pub held_read_start : PlainCall held.read_start.Statement.statement held.read_start.Reads.Asked held.read_start.Reads.Post
-      (λ l (s, _). let (v, x) = read_session (record_at s.now) in record { verdict = v; session = x })
+      (λ l (s, _). result_of (read_session (record_at s.now)))
   pub stored_write : PublicCall stored.write.Statement.statement stored.write.Reads.Asked stored.write.Reads.Post
       (λ l (_, (out, _)). out.now) (λ l (x, (out, _)). write_session x out.now)
   -- the session in lent bytes: an opening, a sample, the test, the time in force

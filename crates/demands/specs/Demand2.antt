@@ -2,7 +2,7 @@
 -- stands until the session is opened anew." And of document 02's R-5: the second record equals its rules, and emergency "stays called".
 -- Statements; proofs/{Machine,History,Locations}.antt prove them.
 use Rattle.std.specs.Prelude.{◌≡◌, Bool, true, false, List, [], ◌∷◌, ◌++◌, map, ℕ, ◌*◌, ◌<◌, min}
-use Rattle.refusal.specs.declared.Verdict.{Verdict}
+use Rattle.refusal.specs.Verdict.{Verdict}
 use Rattle.targets.specs.Targets.{most, count, target_at, speeds_in}
 use Rattle.decision.specs.declared.Decision.{Decision}
 use Rattle.walk.specs.Walk.{Arrival, location_of}

@@ -1,7 +1,7 @@
 -- Document 02's R-10, "A refusal in no log": document 01's table with its line 11, "the walk's squared speed exceeds 1,000,000,000", gives no other
 -- answer than the table without it: "all other answers stand". A statement; proofs/Eleven.antt proves it.
 use Rattle.std.specs.Prelude.{◌≡◌, Bool, true, false, cond, List, [], ◌∷◌, ◌++◌, map, ℕ}
-use Rattle.refusal.specs.declared.Verdict.TheVariants.{Accepted}
+use Rattle.refusal.specs.Verdict.{Accepted}
 use Rattle.refusal.specs.Number.{number_of, number_of_verdict}
 use Rattle.refusal.specs.Lowest.{Rule}
 use Rattle.refusal.specs.Written.{no_room}

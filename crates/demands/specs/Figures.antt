@@ -1,7 +1,7 @@
 -- "Figures to meet", all cases marked P as one table under a single statement. Its proof is `figures` of proofs/Figures.antt.
 use Rattle.std.specs.Prelude.{◌≡◌, true, false, pos, negsuc, take}
-use Rattle.refusal.specs.declared.Verdict.TheVariants.{Accepted}
-use Rattle.hundredths.specs.declared.Reading.TheVariants.{Hundredths}
+use Rattle.refusal.specs.Verdict.{Accepted}
+use Rattle.hundredths.specs.Reading.{Hundredths}
 use Rattle.hundredths.specs.Figures.{pressure_at, speed_at}
 use Rattle.consist.specs.Figures.{train}
 use Rattle.decision.specs.declared.Decision.{Decision}

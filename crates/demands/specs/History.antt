@@ -5,8 +5,7 @@ use Rattle.refusal.specs.Lowest.{Rule, lowest}
 use Rattle.refusal.specs.Steps.{kept}
 use Rattle.refusal.specs.Written.{written}
 use Rattle.refusal.specs.declared.Refusal.TheVariants.{NoSession}
-use Rattle.refusal.specs.declared.Verdict.{Verdict}
-use Rattle.refusal.specs.declared.Verdict.TheVariants.{Refused}
+use Rattle.refusal.specs.Verdict.{Verdict, Refused}
 use Rattle.consist.specs.declared.Consist.{Consist}
 use Rattle.consist.specs.Consist.{consist_in, read_rules}
 use Rattle.targets.specs.Targets.{most, speeds_in}

@@ -1,11 +1,11 @@
--- The Rattle program as a machine: session::none, session::open and session::sample. Definitions only; specs/Demands.antt says what is demanded
--- of it.
+-- The Rattle program as a machine: session::none, and session::open and sampling::sample, which are lent the session. Definitions only;
+-- specs/Demands.antt says what is demanded of it.
 use Rattle.std.specs.Prelude.{◌≡◌, List, [], ◌∷◌, ℕ, ◌^◌, ◌≤◌, ◌<◌, length}
 use borrow.Fn.World.{ArgsD}
 use contract.Lifetimes.{Lfts}
 use denote.Triple.Clauses.{AtExit}
 use Rattle.bits.specs.Fields.{Fit}
-use Rattle.refusal.specs.declared.Verdict.{Verdict}
+use Rattle.refusal.specs.Verdict.{Verdict}
 use Rattle.blocks.specs.declared.Blocks.{Blocks}
 use Rattle.blocks.specs.Blocks.{most}
 use Rattle.consist.specs.Consist.{fields_of}
@@ -13,7 +13,6 @@ use Rattle.brake.specs.Rear.{heard_number}
 use Rattle.brake.specs.Brake.{brake_told}
 use Rattle.learn.specs.Stage.{learner_told}
 use Rattle.session.specs.declared.Session.{Session}
-use Rattle.session.specs.Session.{answer}
 use Rattle.sampling.specs.Laws.{Lent}
 use Rattle.session.proofs.none.Reads as none_reads
 use Rattle.session.specs.contracts.open as open_call
@@ -55,20 +54,21 @@ by_value = record { Fits = FitsWords; session = λ x. x; put = λ x y. y; tell =
 -- ---- the contracts, as the check reads them from the source
 
 -- what is given to a sample call
-abbrev pub lent_to : (κs : Lfts 4) → ArgsD sample_call.signature κs → Lent
+abbrev pub lent_to : (κs : Lfts 5) → ArgsD sample_call.signature κs → Lent
 lent_to κs = λ (_, (s, (p, (t, (out, _))))). record { sample = s.now; profile = p.now; targets = t.now; out = out.now }
 
--- for every input that fits its words, each contract holds of what the machine gives: for a sample call, where the output at exit is what it
--- hands back
+-- for every input that fits its words, each contract holds of what the machine gives, where the session at exit, and for a sample call the
+-- output, are what it hands back
 pub record Meets (m : Machine Session Verdict) : Type 0 where
   pub none : (κs : Lfts 0) (a : _) (x : _) → none_reads.Post κs a m.none x
-  pub opens : (κs : Lfts 1) (a : ArgsD open_call.signature κs) (x : _) → FitsWords a.0 → Slice a.1.0.now →
-      let r = m.opens a.0 a.1.0.now a.1.1.0 in
-      open_reads.Post κs a (answer r.1 r.0) x
-  pub samples : (κs : Lfts 4) (a : ArgsD sample_call.signature κs) (x : AtExit sample_call.ended κs) → FitsWords a.0 → Lends (sampling (lent_to κs a)) →
-      let r = m.samples a.0 (lent_to κs a) in
-      let (_, (_, (_, (_, (out, _))))) = x in
-      out.now ≡ r.out → sample_reads.Post κs a (answer r.state r.told) x
+  pub opens : (κs : Lfts 2) (a : ArgsD open_call.signature κs) (x : AtExit open_call.ended κs) → FitsWords a.0.now → Slice a.1.0.now →
+      let r = m.opens a.0.now a.1.0.now a.1.1.0 in
+      let (session, _) = x in
+      session.now ≡ r.1 → open_reads.Post κs a r.0 x
+  pub samples : (κs : Lfts 5) (a : ArgsD sample_call.signature κs) (x : AtExit sample_call.ended κs) → FitsWords a.0.now → Lends (sampling (lent_to κs a)) →
+      let r = m.samples a.0.now (lent_to κs a) in
+      let (session, (_, (_, (_, (out, _))))) = x in
+      session.now ≡ r.state → out.now ≡ r.out → sample_reads.Post κs a r.told x
 
 -- one that meets them, from this value on
 abbrev pub our_program : Session → Machine Session Verdict

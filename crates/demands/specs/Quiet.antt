@@ -4,8 +4,8 @@ use Rattle.std.specs.Prelude.{◌≡◌, cond, List, [], ◌∷◌, ℕ, ◌-◌
 use Rattle.sample.specs.declared.RearPressure.{RearPressure}
 use Rattle.sample.specs.declared.RearPressure.TheVariants.{Present, Lost}
 use Rattle.brake.specs.declared.Choice.TheVariants.{FiveSeconds}
-use Rattle.brake.specs.declared.Heard.{Heard}
-use Rattle.brake.specs.declared.Heard.TheVariants.{Never, At}
+use Rattle.brake.specs.Rear.{Heard}
+use Rattle.brake.specs.Rear.{Never, At}
 use Rattle.sampling.specs.Sample.{sample_in}
 use Rattle.sampling.specs.Laws.{Lent}
 use Rattle.demands.specs.Machine.{Call}

@@ -1,7 +1,7 @@
 -- "For an answer that is an enum, a definition provides this paper's number and values for each of the enum's cases. The promises use this definition."
 -- Different answers are told differently, so that a promise of what is told leaves no second answer. A statement; proofs/Told.antt proves it.
 use Rattle.std.specs.Prelude.{◌≡◌}
-use Rattle.refusal.specs.declared.Verdict.{Verdict}
+use Rattle.refusal.specs.Verdict.{Verdict}
 use Rattle.refusal.specs.Number.{number_of, number_of_verdict, told}
 use Rattle.hundredths.specs.Reading.{reading_told}
 use Rattle.sample.specs.Sample.{rear_told, raw_told, pressure_told, sample_told, judged_told, answer_told as raw_answer_told}

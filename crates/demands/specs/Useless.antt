@@ -6,12 +6,11 @@ use denote.Triple.Clauses.{AtExit}
 use Rattle.whole.specs.Floor.{cut}
 use Rattle.whole.specs.Root.{root_of}
 use Rattle.refusal.specs.declared.Refusal.{Refusal}
-use Rattle.refusal.specs.declared.Verdict.TheVariants.{Refused}
+use Rattle.refusal.specs.Verdict.{Refused}
 use Rattle.consist.specs.declared.Consist.{Consist}
 use Rattle.decision.specs.declared.Decision.{Decision}
 use Rattle.decision.specs.Decision.{size}
 use Rattle.track.specs.declared.Track.{Track}
-use Rattle.track.specs.Steps.{track_of}
 use Rattle.step.specs.declared.Curve.{Curve}
 use Rattle.walk.specs.declared.Prediction.{Prediction}
 use Rattle.step.specs.declared.Run.{Run}
@@ -96,8 +95,8 @@ Walker = Consist → Curve → Track → ℕ → ℕ → List ℕ → Prediction
 abbrev pub MeetsPredict : Walker → Type 0
 MeetsPredict w =
     (κs : Lfts 1) (a : ArgsD signature κs) (x : AtExit ended κs) → predict_reads.Pre κs a →
-    let (c, (curve, (count, (starts, (grades, (curvatures, (_, (_, (head, (v, (speeds, _))))))))))) = a in
-    predict_reads.Post κs a (w c curve (track_of count starts.now grades.now curvatures.now) head v speeds) x
+    let (c, (curve, (route, (head, (v, (speeds, _)))))) = a in
+    predict_reads.Post κs a (w c curve route.track.now head v speeds) x
 
 abbrev pub WalkRepeatsStep : Walker → Type 0
 WalkRepeatsStep w =

@@ -4,7 +4,7 @@
 use brake::Choice;
 use std::env::{Env, FillError};
 
-// Bytes that hold the longest word that asks for a choice.
+// Bytes that hold the longest word that asks for a choice: an array, as no program here has a heap.
 const WORD_ROOM: usize = 11;
 
 // The choice that the words ask for; none where they are wrong.
@@ -13,13 +13,9 @@ fn choice<E: Env>(words: &E) -> Option<Choice> {
     match words.arg(1, &mut word) {
         Err(FillError::NotPresent) => Some(Choice::FiveSeconds),
         Err(FillError::TooLong) => None,
-        Ok(n) => {
-            if opening::is_everlasting(&word[..n]) & is_last(words) {
-                Some(Choice::Everlasting)
-            } else {
-                None
-            }
-        }
+        Ok(n) => (opening::is_everlasting(&word[..n]) & is_last(words)).then_some(
+            Choice::Everlasting,
+        ),
     }
 }
 
@@ -28,8 +24,8 @@ fn is_last<E: Env>(words: &E) -> bool {
     matches!(words.arg(2, &mut []), Err(FillError::NotPresent))
 }
 
-// Runs the feed where no word is wrong; else that is said, and nothing is read. It ends with status 0 either way: `./run`, which
-// knows the words too, gives another.
+// Runs the feed where no word is wrong; else that is said, and nothing is read. It ends quietly with status 0 whatever happens:
+// `./run`, which knows the words too, gives another.
 fn main(rt: HostRuntime) {
     match choice(&rt) {
         Some(choice) => feed::run(&mut rt.stdin(), &mut rt.stdout(), choice),

@@ -1,7 +1,7 @@
 -- What is written is printed, since it reads back. Assumes nothing.
 use mathlib.Core.Path.{ap₂}
 use mathlib.Core.List.{◌++◌}
-use Rattle.refusal.specs.declared.Verdict.{Verdict}
+use Rattle.refusal.specs.Verdict.{Verdict}
 use Rattle.decision.specs.declared.Decision.{Decision}
 use Rattle.decision.specs.RoundTrip.{BothReadBack}
 use Rattle.decision.proofs.RoundTrip.{both_read_back}

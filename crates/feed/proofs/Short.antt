@@ -7,15 +7,13 @@ use native.Mathlib.Omega.{arith}
 use lib.ListN.{length, replicate}
 use borrow.Author.Tests.{ne_eqb}
 use Rattle.refusal.specs.declared.Refusal.TheVariants.{WrongLength}
-use Rattle.refusal.specs.declared.Verdict.{Verdict}
-use Rattle.refusal.specs.declared.Verdict.TheVariants.{Accepted, Refused}
+use Rattle.refusal.specs.Verdict.{Verdict, Accepted, Refused}
 use Rattle.refusal.proofs.Order.{given, passed}
 use Rattle.record.specs.Record.{wrong_length}
 use Rattle.sample.specs.Sample.{size}
 use Rattle.decision.specs.Decision as decision
 use Rattle.session.specs.declared.Session.{Session}
-use Rattle.session.specs.declared.Answer.{Answer}
-use Rattle.session.specs.Session.{is_open, refused_with}
+use Rattle.session.specs.Session.{Answer, is_open, refused_with}
 use Rattle.sampling.specs.Sample.{sample_call}
 use Rattle.sampling.specs.Laws.{SampleUnchanged, StaysOpen}
 use Rattle.sampling.proofs.Calls.{call_before}

@@ -1,8 +1,7 @@
 -- Figures of the lines and of the counts, as one statement. Its proof is `figures` of proofs/Figures.antt.
 use Rattle.std.specs.Prelude.{◌≡◌, true, false, [], ◌∷◌}
 use Rattle.refusal.specs.declared.Refusal.TheVariants.{BrokenProfile, NoRoom, BrokenBlocks}
-use Rattle.opening.specs.declared.Part.TheVariants.{Bytes, Broken}
-use Rattle.opening.specs.Opening.{blocks_ahead, profile_ahead, targets_ahead}
+use Rattle.opening.specs.Opening.{Bytes, Broken, blocks_ahead, profile_ahead, targets_ahead}
 use Rattle.line.specs.Line.{decimal, decision_text, refusal_text}
 use Rattle.feed.specs.Case.{first_line, second_emergency, crossed, thirteen}
 

@@ -1,7 +1,7 @@
 -- "as in the record": of decisions that were written their own lines are printed, the first record's first, and never a refusal. A statement;
 -- proofs/Printed.antt proves it.
 use Rattle.std.specs.Prelude.{◌≡◌, List, ◌++◌, ℕ}
-use Rattle.refusal.specs.declared.Verdict.TheVariants.{Accepted}
+use Rattle.refusal.specs.Verdict.{Accepted}
 use Rattle.decision.specs.declared.Decision.{Decision}
 use Rattle.decision.specs.Decision.{write_both}
 use Rattle.line.specs.Line.{decision_text, sample_text}

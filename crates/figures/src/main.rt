@@ -6,7 +6,7 @@ use brake::Choice;
 use std::env::{Env, FillError};
 use std::fs::File;
 
-// Bytes that hold any path.
+// Bytes that hold any path: an array, as no program here has a heap.
 const NAME_ROOM: usize = 4_096;
 
 fn print_name(rt: &HostRuntime, name: &str) {
@@ -41,6 +41,7 @@ fn run_one(rt: &HostRuntime, name: &[u8], choice: Choice) -> Choice {
     choice
 }
 
+// By an index, by which an argument is asked for.
 fn main(rt: HostRuntime) {
     let mut choice = Choice::FiveSeconds;
     let mut name = [0u8; NAME_ROOM];

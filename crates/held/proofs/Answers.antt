@@ -1,4 +1,4 @@
--- What the reader and the writer answer, and what the answers tell. Assumes nothing.
+-- What the reader and the writer answer, and what the answers tell. No function's answer: lemmas that the two readers cite. Assumes nothing.
 use mathlib.Core.Path.{◌≡◌, refl, sym, ap, ap₂, ◌∙◌}
 use Prim.Native.Nat.{ℕ, zero, suc, ◌+◌, ◌-◌, ◌*◌, ◌≤◌, ◌<◌}
 use native.Mathlib.Omega.{arith}
@@ -11,12 +11,13 @@ use Rattle.bits.specs.Fields.{split, Fit}
 use Rattle.bits.specs.Bytes.{eights}
 use Rattle.bits.proofs.Bit.{bit_fits}
 use Rattle.bits.proofs.Ranges.{neither}
+use Rattle.std.specs.Prelude.{Result}
+use Rattle.refusal.specs.Number.{answer_of}
 use Rattle.refusal.specs.Steps.{kept}
 use Rattle.refusal.specs.Written.{no_room, written}
 use Rattle.refusal.specs.declared.Refusal.{Refusal}
 use Rattle.refusal.specs.declared.Refusal.TheVariants.{NoSession, NoRoom}
-use Rattle.refusal.specs.declared.Verdict.{Verdict}
-use Rattle.refusal.specs.declared.Verdict.TheVariants.{Accepted, Refused}
+use Rattle.refusal.specs.Verdict.{Verdict, Accepted, Refused}
 use Rattle.refusal.proofs.Order.{accepted, written_accepted}
 use Rattle.refusal.specs.Lowest.{lowest}
 use Rattle.refusal.proofs.Steps.{first_of, in_order}
@@ -34,8 +35,7 @@ use Rattle.brake.proofs.StateNumbers.{number_most}
 use Rattle.brake.proofs.Rear.{choice_most}
 use Rattle.learn.proofs.Stages.{stage_number_most}
 use Rattle.session.specs.declared.Session.{Session}
-use Rattle.session.specs.declared.Answer.{Answer}
-use Rattle.session.specs.Session.{is_open}
+use Rattle.session.specs.Session.{Answer, is_open, none_open}
 use Rattle.session.proofs.Opened.{opened}
 use Rattle.session.proofs.Told.{answer_one}
 use Rattle.held.specs.Held.{size, mark_for, count_in, wrong_mark, behind_for, size_for, size_of, most, widths, fields_of, of_fields, front_of, behind_of, bytes_of, fields_at, front_at, behind_at, count_at, blocks_at, consist_at, session_in, no_front, no_behind, no_record, is_broken, no_session, answer, read_told, read_rules, read_session, read_front, write_rules, write_session}
@@ -44,6 +44,10 @@ use Rattle.held.proofs.Sizes.{size_some, size_none, some_blocks, size_most, mark
 -- what is told of a reading tells it
 pub read_tells : (x y : Verdict × Session) → read_told x ≡ read_told y → x ≡ y
 read_tells x y h = ap (λ (a : Answer). (a.verdict, a.session)) (answer_one (record { session = x.1; verdict = x.0 }) (record { session = y.1; verdict = y.0 }) h)
+
+-- and what a caller knows when it has taken the reading apart
+pub read_of : (x : Verdict × Session) (r s : Result Session Refusal) → read_told (answer_of none_open r) ≡ read_told x → r ≡ s → x ≡ answer_of none_open s
+read_of x r s e h = sym (read_tells _ x e) ∙ ap (answer_of none_open) h
 
 -- ---- bytes that are a record
 

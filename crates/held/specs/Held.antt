@@ -9,8 +9,7 @@ use Rattle.refusal.specs.Steps.{kept}
 use Rattle.refusal.specs.Written.{no_room, written}
 use Rattle.refusal.specs.declared.Refusal.{Refusal}
 use Rattle.refusal.specs.declared.Refusal.TheVariants.{NoSession, NoRoom}
-use Rattle.refusal.specs.declared.Verdict.{Verdict}
-use Rattle.refusal.specs.declared.Verdict.TheVariants.{Refused}
+use Rattle.refusal.specs.Verdict.{Verdict, Refused}
 use Rattle.record.specs.Record.{wrong_length}
 use Rattle.seal.specs.Seal.{sealed, is_sealed}
 use Rattle.seal.specs.Seal as seal

@@ -3,16 +3,16 @@
 #![tactic(auto)]
 
 ghost use Rattle.std.specs.Prelude.{◌≡◌, ◌≤◌, length, get_or};
-ghost use Rattle.refusal.specs.declared.Refusal.TheVariants.{NoSession};
-ghost use Rattle.session.specs.Session.{answer_told};
-ghost use Rattle.held.specs.Held.{has_blocks, count_in, size_for, most, brake_of, learner_of, of_fields, fields_at, no_front, no_record, record_at, refused_with, read_told, read_front, read_session};
+ghost use Rattle.refusal.specs.Number.{answer_of};
+ghost use Rattle.session.specs.Session.{none_open};
+ghost use Rattle.held.specs.Held.{has_blocks, count_in, size_for, most, brake_of, learner_of, of_fields, fields_at, no_front, no_record, record_at, read_told, read_front, read_session};
 
 use blocks::Blocks;
-use brake::Brake;
+use brake::{Brake, Choice, State};
 use consist::Consist;
-use learn::Learner;
-use refusal::{Refusal, Step, Verdict};
-use session::{Answer, Session};
+use learn::{Learner, Stage};
+use refusal::Refusal;
+use session::Session;
 use trend::Sums;
 
 // Bytes of the front.
@@ -30,16 +30,6 @@ pub const LETTER: u64 = 0x4600;
 
 // Bytes of the longest record; a session buffer has as many, or more.
 pub const MOST: usize = SIZE + Blocks::SIZE * Blocks::MOST + seal::SIZE;
-
-fn refused() -> Answer
-    ensures { answer_told result ≡ read_told (refused_with NoSession) }
-{
-    let session = session::none();
-    Answer {
-        verdict: Verdict::Refused(Refusal::NoSession),
-        session,
-    }
-}
 
 // Whether a mark tells of blocks, 1 to 64.
 fn has_blocks(mark: u64) -> bool
@@ -60,13 +50,13 @@ fn size_at(front: &[u8]) -> usize
 }
 
 // Not sealed, a wrong mark, a state above 5, or a stage of learning above 4.
+#[tactic(auto, unfolding(crate::specs::Held::no_front, crate::specs::Held::wrong_mark))]
 fn no_front(s: &[u8]) -> bool
     ensures { result ≡ no_front s.now }
 {
-    let is_sealed = seal::is_sealed(s);
     let mark = bits::field(s, 0, 16);
     let marked = (mark == MARK) | has_blocks(mark);
-    !is_sealed | !marked | (bits::field(s, 26, 5) > 5) | (bits::field(s, 192, 4) > 4)
+    !seal::is_sealed(s) | !marked | (bits::field(s, 26, 5) > 5) | (bits::field(s, 192, 4) > 4)
 }
 
 // Not as many bytes as there are with its blocks, no front, or blocks that are not sealed.
@@ -83,20 +73,17 @@ fn no_record(s: &[u8]) -> bool
     if s.len() == SIZE {
         return front;
     }
-    let is_sealed = seal::is_sealed(&s[SIZE..]);
-    front | !is_sealed
+    front | !seal::is_sealed(&s[SIZE..])
 }
+
+// Each reader below names its own fields and their places, as `brake_of`, `learner_of` and `of_fields` do: one over tables would hide them.
 
 // The air brakes of a record's own fields.
 fn brake_of(s: &[u8]) -> Brake
     ensures { result ≡ brake_of (fields_at s.now) }
 {
-    let sampled = bits::field(s, 24, 1) == 1;
-    let choice = brake::choice_of(bits::field(s, 25, 1));
-    let state = brake::state_of(bits::field(s, 26, 5));
-    let heard = brake::heard_of(bits::field(s, 31, 25) as u32);
     Brake {
-        state,
+        state: State::of_number(bits::field(s, 26, 5)),
         hold: bits::field(s, 56, 16) as u16,
         a: bits::field(s, 72, 16) as u16,
         b: bits::field(s, 88, 16) as u16,
@@ -105,9 +92,9 @@ fn brake_of(s: &[u8]) -> Brake
         last_front: bits::field(s, 136, 16) as u16,
         last_rear: bits::field(s, 152, 16) as u16,
         last_time: bits::field(s, 168, 24) as u32,
-        sampled,
-        choice,
-        heard,
+        sampled: bits::field(s, 24, 1) == 1,
+        choice: Choice::of_number(bits::field(s, 25, 1)),
+        heard: brake::heard_of(bits::field(s, 31, 25) as u32),
     }
 }
 
@@ -128,80 +115,68 @@ fn sums_of(s: &[u8]) -> Sums
 fn learner_of(s: &[u8]) -> Learner
     ensures { result ≡ learner_of (fields_at s.now) }
 {
-    let stage = learn::stage_of(bits::field(s, 192, 4));
-    let sums = sums_of(s);
     Learner {
-        stage,
+        stage: Stage::of_number(bits::field(s, 192, 4)),
         since: bits::field(s, 196, 24) as u32,
         init: bits::field(s, 220, 12) as u16,
         last: bits::field(s, 232, 12) as u16,
         pressure: bits::field(s, 244, 16) as u16,
-        sums,
+        sums: sums_of(s),
     }
 }
 
 // The open session of a record's own fields and a consist, whatever the mark.
-fn of_bytes(s: &[u8], c: Consist) -> Session
-    ensures { result ≡ of_fields (fields_at s.now) c }
+fn of_bytes(s: &[u8], consist: Consist) -> Session
+    ensures { result ≡ of_fields (fields_at s.now) consist }
 {
-    let cause = bits::field(s, 16, 4) as u8;
-    let emergency = bits::field(s, 20, 4) as u8;
-    let brake = brake_of(s);
-    let learner = learner_of(s);
     Session {
         opened: true,
-        consist: c,
-        brake,
-        learner,
-        cause,
-        emergency,
+        consist,
+        brake: brake_of(s),
+        learner: learner_of(s),
+        cause: bits::field(s, 16, 4) as u8,
+        emergency: bits::field(s, 20, 4) as u8,
     }
 }
 
 // The session of a front's fields and this consist, where it is open.
-fn read_front(s: &[u8], c: Consist) -> Answer
-    ensures { answer_told result ≡ read_told (read_front s.now c) }
+fn read_front(s: &[u8], c: Consist) -> Result<Session, Refusal>
+    ensures { read_told (answer_of none_open result) ≡ read_told (read_front s.now c) }
 {
     let x = of_bytes(s, c);
-    let Step::On = refusal::unless(!session::is_open(x)) else {
-        return refused();
+    let Some(()) = refusal::unless(!session::is_open(x)) else {
+        return Err(Refusal::NoSession);
     };
-    Answer {
-        verdict: Verdict::Accepted,
-        session: x,
-    }
+    Ok(x)
 }
 
-// The session of a record; where it is refused, the one before any opening.
-pub fn read(s: &[u8]) -> Answer
-    ensures { answer_told result ≡ read_told (read_session s.now) }
+// The session of a record.
+pub fn read(s: &[u8]) -> Result<Session, Refusal>
+    ensures { read_told (answer_of none_open result) ≡ read_told (read_session s.now) }
 {
-    let Step::On = refusal::unless(no_record(s)) else {
-        return refused();
+    let Some(()) = refusal::unless(no_record(s)) else {
+        return Err(Refusal::NoSession);
     };
-    let found = consist::read(&s[OWN..BODY]);
-    let verdict = found.verdict;
-    let Verdict::Accepted = verdict else {
-        return refused();
+    let Ok(c) = consist::read(&s[OWN..BODY]) else {
+        return Err(Refusal::NoSession);
     };
-    let c = found.consist;
     if s.len() == SIZE {
         return read_front(&s[..SIZE], c);
     }
     let end = s.len() - seal::SIZE;
-    let Step::On = refusal::unless(blocks::is_broken(&s[SIZE..end], c.length, c.weight)) else {
-        return refused();
+    let Some(()) = refusal::unless(blocks::is_broken(&s[SIZE..end], c.length, c.weight)) else {
+        return Err(Refusal::NoSession);
     };
     let b = Blocks::laid(&s[SIZE..end]);
     read_front(&s[..SIZE], c.with_blocks(b))
 }
 
 // The session of the record that a session buffer begins with; one of fewer bytes than the longest record has none.
-pub fn read_start(s: &[u8]) -> Answer
-    ensures { answer_told result ≡ read_told (read_session (record_at s.now)) }
+pub fn read_start(s: &[u8]) -> Result<Session, Refusal>
+    ensures { read_told (answer_of none_open result) ≡ read_told (read_session (record_at s.now)) }
 {
     if s.len() < MOST {
-        return refused();
+        return Err(Refusal::NoSession);
     }
     let size = size_at(&s[..SIZE]);
     read(&s[..size])

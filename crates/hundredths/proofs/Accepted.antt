@@ -9,7 +9,7 @@ use lib.Ieee.Bits.{to_bits-of_bits}
 use lib.Ieee.Fits.{down_pos}
 use borrow.Author.Tests.{ltb-false, le-ltb}
 use Rattle.whole.specs.Ceiling.{ceil_div}
-use Rattle.hundredths.specs.declared.Reading.TheVariants.{Hundredths, Refused}
+use Rattle.hundredths.specs.Reading.{Hundredths, Refused}
 use Rattle.hundredths.specs.declared.Rounding.{Rounding}
 use Rattle.hundredths.specs.declared.Rounding.TheVariants.{Up, Down}
 use Rattle.hundredths.specs.Reading.{numerator, denominator, rounded, hundredths_of, infinite, below_zero, above_limit, is_bad, most_speed, most_psi, judged, speed_of, pressure_of}

@@ -4,9 +4,7 @@ use mathlib.Core.List.{List}
 use Prim.Native.Nat.{ℕ}
 use lib.ListN.{get_or}
 use native.Mathlib.Omega.{arith}
-use Rattle.hundredths.specs.declared.Reading.{Reading}
-use Rattle.hundredths.specs.declared.Reading.TheVariants.{Hundredths, Refused}
-use Rattle.hundredths.specs.Reading.{reading_told}
+use Rattle.hundredths.specs.Reading.{Reading, Hundredths, Refused, reading_told}
 
 -- no two readings are told alike
 pub reading_one : (x y : Reading) → reading_told x ≡ reading_told y → x ≡ y

@@ -2,9 +2,7 @@
 use Rattle.std.specs.Prelude.{◌≡◌, ℕ}
 use Rattle.std.specs.Float.{binary32}
 use Rattle.std.specs.Float.Ieee.{of_bits}
-use Rattle.hundredths.specs.declared.Reading.{Reading}
-use Rattle.hundredths.specs.declared.Reading.TheVariants.{Hundredths, Refused}
-use Rattle.hundredths.specs.Reading.{speed_of, pressure_of}
+use Rattle.hundredths.specs.Reading.{Reading, Hundredths, Refused, speed_of, pressure_of}
 
 abbrev pub speed_at : ℕ → Reading
 speed_at bits = speed_of (of_bits binary32 bits)

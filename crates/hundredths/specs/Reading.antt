@@ -1,12 +1,20 @@
 -- What a reading is in hundredths, and when it is refused: a quotation is document 01's, over the definition that says it. Definitions only. Assumes nothing.
-use Rattle.std.specs.Prelude.{ℕ, ◌*◌, ◌/◌, Bool, true, false, ◌&&◌, ◌||◌, List, [], ◌∷◌, ltb, Float}
+use Rattle.std.specs.Prelude.{Option, Some, None, ℕ, ◌*◌, ◌/◌, Bool, true, false, ◌&&◌, ◌||◌, List, [], ◌∷◌, ltb, Float}
 use Rattle.std.specs.Float.{nan, inf, fin}
 use Rattle.std.specs.Float.Ieee.{up, down, is_nan}
 use Rattle.whole.specs.Ceiling.{ceil_div}
-use Rattle.hundredths.specs.declared.Reading.{Reading}
-use Rattle.hundredths.specs.declared.Reading.TheVariants.{Hundredths, Refused}
 use Rattle.hundredths.specs.declared.Rounding.{Rounding}
 use Rattle.hundredths.specs.declared.Rounding.TheVariants.{Up, Down}
+
+-- what a reading is: its hundredths, or none where it is refused
+abbrev pub Reading : Type 0
+Reading = Option ℕ
+
+pattern abbrev pub Hundredths : ℕ → Reading
+Hundredths n = Some n
+
+pattern abbrev pub Refused : Reading
+Refused = None
 
 -- "its exact value": the fraction numerator x / denominator x, the sign aside. A finite float `fin s m e` is m * 2 ^ e, negative where s is true, and 2 ^ e is up e / down e.
 abbrev pub numerator : Float → ℕ

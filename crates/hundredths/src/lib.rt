@@ -23,14 +23,8 @@ const INFINITY: u32 = 0x7f80_0000;
 // The one pattern that is written for a NaN.
 const NAN: u32 = 0x7fc0_0000;
 
-#[derive(Clone, Copy)]
-pub enum Reading {
-    Hundredths(u16),
-    Refused,
-}
-
 // Public for the definitions behind the contracts.
-#[derive(Clone, Copy)]
+#[derive(Clone, Copy, Debug, PartialEq, Eq)]
 pub enum Rounding {
     Up,
     Down,
@@ -43,7 +37,7 @@ struct Fraction {
     places: u32,
 }
 
-// For every pattern: a NaN's gives a NaN.
+// For every pattern: a NaN's gives a NaN. No `From`, here and in `bits_of`: both types are std's, whose own is undefined at a NaN.
 pub fn float_of(bits: u32) -> f32
     ensures { result ≡ of_bits binary32 bits }
 {
@@ -61,23 +55,24 @@ pub fn bits_of(x: f32) -> u32
     if x != x { NAN } else { f32::to_bits(x) }
 }
 
-pub fn speed(x: f32) -> Reading
+// Two readers, as one over any limit would have to ask that it is no higher than a pressure's.
+pub fn speed(x: f32) -> Option<u16>
     ensures { reading_told result ≡ reading_told (speed_of x) }
 {
     if in_range(x, MOST_SPEED) {
-        Reading::Hundredths(hundredths(x, Rounding::Up))
+        Some(hundredths(x, Rounding::Up))
     } else {
-        Reading::Refused
+        None
     }
 }
 
-pub fn pressure(x: f32) -> Reading
+pub fn pressure(x: f32) -> Option<u16>
     ensures { reading_told result ≡ reading_told (pressure_of x) }
 {
     if in_range(x, MOST_PSI) {
-        Reading::Hundredths(hundredths(x, Rounding::Down))
+        Some(hundredths(x, Rounding::Down))
     } else {
-        Reading::Refused
+        None
     }
 }
 
@@ -116,7 +111,7 @@ fn exact(x: f32) -> Fraction
     Fraction { digits, places }
 }
 
-// n / 2 ^ places
+// n / 2 ^ places. A match and no closure: `rounded` is defined by these two cases.
 fn quotient(n: u32, places: u32, rounding: Rounding) -> u32
     ensures { result ≡ rounded rounding n (2 ^ places) }
 {

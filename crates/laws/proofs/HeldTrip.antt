@@ -17,7 +17,7 @@ use Rattle.bits.proofs.Bytes.{bytes_take, bytes_drop, fields_of_bytes, bytes_of_
 use Rattle.bits.proofs.Parts.{fields_append}
 use Rattle.bits.proofs.Places.{fields_from_lem}
 use Rattle.refusal.specs.Steps.{kept}
-use Rattle.refusal.specs.declared.Verdict.TheVariants.{Accepted}
+use Rattle.refusal.specs.Verdict.{Accepted}
 use Rattle.record.specs.Record.{wrong_length}
 use Rattle.seal.specs.Seal.{sealed, is_sealed}
 use Rattle.seal.specs.Seen.{SealedFound, FoundSealed}

@@ -8,7 +8,7 @@ use lib.ListN.{length}
 use borrow.Author.Tests.{eq-eqb}
 use Rattle.bits.proofs.Ranges.{and-true_left}
 use Rattle.bits.proofs.UpTo.{length-up_to, get_or_up_to}
-use Rattle.refusal.specs.declared.Verdict.TheVariants.{Accepted}
+use Rattle.refusal.specs.Verdict.{Accepted}
 use Rattle.table.proofs.RoundTrip.{written_lawful, written_back, accepted_back}
 use Rattle.profile.specs.Profile.{segments, segment_at, starts_in, grades_in, curvatures_in, segment_of, same, write_profile}
 use Rattle.laws.specs.ProfileTrip.{WrittenReadsBack, AcceptedWritesBack}

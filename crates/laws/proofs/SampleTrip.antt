@@ -19,8 +19,7 @@ use Rattle.hundredths.proofs.Accepted.{bits_back}
 use Rattle.record.specs.Record.{wrong_length}
 use Rattle.refusal.specs.Lowest.{lowest}
 use Rattle.refusal.specs.Written.{no_room, written}
-use Rattle.refusal.specs.declared.Verdict.{Verdict}
-use Rattle.refusal.specs.declared.Verdict.TheVariants.{Accepted}
+use Rattle.refusal.specs.Verdict.{Verdict, Accepted}
 use Rattle.refusal.proofs.Order.{accepted, written_accepted}
 use Rattle.sample.specs.declared.Rear.TheVariants.{Present}
 use Rattle.sample.specs.Sample.{size, mark, widths, present_bit, rear_bits, fields_of, lost_in, rear_of, of_fields, raw_in, bytes_of, other_mark, spare_set, lost_not_zero, wrong_mark, too_wide, bad_rear, bad_reading, read_sample, write_rules, write_sample}

@@ -6,8 +6,8 @@ use Rattle.brake.specs.declared.State.{State}
 use Rattle.brake.specs.declared.State.TheVariants.{Charged, ApplyingService, HoldingService, ApplyingEmergency, HoldingEmergency, Charging}
 use Rattle.brake.specs.declared.Choice.{Choice}
 use Rattle.brake.specs.declared.Choice.TheVariants.{FiveSeconds, Everlasting}
-use Rattle.brake.specs.declared.Heard.{Heard}
-use Rattle.brake.specs.declared.Heard.TheVariants.{Never, At}
+use Rattle.brake.specs.Rear.{Heard}
+use Rattle.brake.specs.Rear.{Never, At}
 use Rattle.brake.specs.declared.Brake.{Brake}
 use Rattle.brake.specs.Brake.{at_opening}
 use Rattle.reading.specs.Readings.{nominal_of}

@@ -2,7 +2,7 @@
 use Rattle.std.specs.Prelude.{◌≡◌, true, List, [], ◌∷◌, ◌++◌, ℕ, take}
 use Rattle.bits.specs.Bytes.{bytes_from}
 use Rattle.refusal.specs.declared.Refusal.TheVariants.{NoSession}
-use Rattle.refusal.specs.declared.Verdict.TheVariants.{Accepted}
+use Rattle.refusal.specs.Verdict.{Accepted}
 use Rattle.seal.specs.Seal.{sealed}
 use Rattle.blocks.specs.Blocks as blocks
 use Rattle.consist.specs.Consist as consist
@@ -10,7 +10,7 @@ use Rattle.consist.specs.Figures.{weighing, train}
 use Rattle.brake.specs.declared.State.TheVariants.{Charged}
 use Rattle.brake.specs.declared.Choice.{Choice}
 use Rattle.brake.specs.declared.Choice.TheVariants.{FiveSeconds, Everlasting}
-use Rattle.brake.specs.declared.Heard.TheVariants.{At}
+use Rattle.brake.specs.Rear.{At}
 use Rattle.learn.specs.declared.Stage.TheVariants.{Falling}
 use Rattle.learn.specs.declared.Learner.{Learner}
 use Rattle.learn.specs.Stage.{at_opening}

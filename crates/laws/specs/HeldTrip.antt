@@ -1,7 +1,7 @@
 -- "What is written reads back the same, and what is accepted would be written with the same bits." Statements; proofs/HeldTrip.antt proves them.
 use Rattle.std.specs.Prelude.{◌≡◌, true, ℕ, ◌≤◌, List, ◌++◌, length, take, drop}
 use Rattle.bits.specs.Bytes.{Bytes}
-use Rattle.refusal.specs.declared.Verdict.TheVariants.{Accepted}
+use Rattle.refusal.specs.Verdict.{Accepted}
 use Rattle.session.specs.declared.Session.{Session}
 use Rattle.session.specs.Session.{is_open}
 use Rattle.held.specs.Held.{size_of, bytes_of, answer, read_session, write_session}

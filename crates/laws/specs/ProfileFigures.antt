@@ -1,6 +1,6 @@
 -- Figures of the profile, as one statement. Its proof is `figures` of proofs/ProfileFigures.antt.
 use Rattle.std.specs.Prelude.{◌≡◌, ℕ, List, [], ◌∷◌, ◌++◌, take, ℤ, pos, negsuc}
-use Rattle.refusal.specs.declared.Verdict.TheVariants.{Accepted}
+use Rattle.refusal.specs.Verdict.{Accepted}
 use Rattle.profile.specs.Grade.{grade_bits}
 use Rattle.profile.specs.Profile.{segment_at, broken, judge_profile, segment_of, bytes_of}
 

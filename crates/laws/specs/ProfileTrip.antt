@@ -1,7 +1,7 @@
 -- "What is written reads back the same, and what is accepted would be written with the same bits." Of the profile; statements; proofs/ProfileTrip.antt proves them.
 use Rattle.std.specs.Prelude.{◌≡◌, ℕ, ◌*◌, ◌≤◌, List, ◌++◌, length, take, drop, ℤ}
 use Rattle.bits.specs.Bytes.{Bytes}
-use Rattle.refusal.specs.declared.Verdict.TheVariants.{Accepted}
+use Rattle.refusal.specs.Verdict.{Accepted}
 use Rattle.table.specs.RoundTrip as table
 use Rattle.profile.specs.declared.Segment.{Segment}
 use Rattle.profile.specs.Profile.{size, segments, starts_in, grades_in, curvatures_in, judge_profile, segment_of, write_profile}

@@ -4,7 +4,7 @@ use Rattle.std.specs.Float.{nan, binary32}
 use Rattle.std.specs.Float.Ieee.{of_bits}
 use Rattle.bits.specs.Bytes.{bytes_from}
 use Rattle.refusal.specs.declared.Refusal.TheVariants.{WrongLength, WrongMark, BadReading}
-use Rattle.refusal.specs.declared.Verdict.TheVariants.{Accepted}
+use Rattle.refusal.specs.Verdict.{Accepted}
 use Rattle.sample.specs.declared.Rear.{Rear}
 use Rattle.sample.specs.declared.Rear.TheVariants as raw
 use Rattle.sample.specs.declared.RawSample.{RawSample}

@@ -1,7 +1,7 @@
 -- "What is written reads back the same, and what is accepted would be written with the same bits." Statements; proofs/SampleTrip.antt proves them.
 use Rattle.std.specs.Prelude.{◌≡◌, ℕ, ◌≤◌, List, ◌++◌, length, take, drop}
 use Rattle.bits.specs.Bytes.{Bytes}
-use Rattle.refusal.specs.declared.Verdict.TheVariants.{Accepted}
+use Rattle.refusal.specs.Verdict.{Accepted}
 use Rattle.sample.specs.Sample.{size, of_fields, answer, read_sample, write_sample}
 
 -- over bit patterns: the fields (time, rear present, head, the bits of each reading) may be any numbers, and every raw sample that the code can

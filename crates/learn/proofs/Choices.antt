@@ -1,16 +1,6 @@
--- What a choice gives: where its test is known, and where it is not. Assumes nothing.
-use mathlib.Core.Path.{◌≡◌, refl, sym}
-use mathlib.Core.Bool.{Bool, true, false, cond, false≢true}
-
--- where the test is passed
-pub passed : {A : Type 0} (b : Bool) (x y : A) → b ≡ true → x ≡ cond b x y
-passed true x y h = refl
-passed false x y h = absurd (false≢true h)
-
--- where it is not
-pub failed : {A : Type 0} (b : Bool) (x y : A) → b ≡ false → y ≡ cond b x y
-failed true x y h = absurd (false≢true (sym h))
-failed false x y h = refl
+-- What holds of a choice, and what is made of it. Assumes nothing.
+use mathlib.Core.Path.{◌≡◌, refl}
+use mathlib.Core.Bool.{Bool, true, false, cond}
 
 -- what holds of each way where it is taken, holds of the choice
 pub either : {A : Type 0} (P : A → Type 0) (b : Bool) {x y : A} → (b ≡ true → P x) → (b ≡ false → P y) → P (cond b x y)

@@ -12,8 +12,7 @@ use borrow.Author.Tests.{ltb-true, lt-ltb, lt-leb}
 use Rattle.sample.specs.declared.RearPressure.{RearPressure}
 use Rattle.sample.specs.declared.RearPressure.TheVariants.{Present, Lost}
 use Rattle.trend.specs.declared.Sums.{Sums}
-use Rattle.trend.specs.declared.Learnt.{Learnt}
-use Rattle.trend.specs.declared.Learnt.TheVariants.{Nothing, Time}
+use Rattle.trend.specs.Result.{Learnt, Nothing, Time}
 use Rattle.trend.specs.Points.{Point, sums_of}
 use Rattle.trend.specs.Result.{dividend, divisor, time_of, result_of}
 use Rattle.trend.specs.Sound.{most}

@@ -6,8 +6,7 @@ use lib.Dec.{leb, ltb}
 use borrow.Author.Tests.{leb-false}
 use Rattle.sample.specs.declared.RearPressure.{RearPressure}
 use Rattle.sample.specs.declared.RearPressure.TheVariants.{Present, Lost}
-use Rattle.trend.specs.declared.Learnt.{Learnt}
-use Rattle.trend.specs.declared.Learnt.TheVariants.{Nothing, Time}
+use Rattle.trend.specs.Result.{Learnt, Nothing, Time}
 use Rattle.trend.specs.Points.{no_sums}
 use Rattle.trend.specs.Sound.{most, most_seconds, most_pressure}
 use Rattle.trend.specs.Falling.{ResultInRange}

@@ -2,8 +2,8 @@
 -- Assumes nothing.
 use mathlib.Core.Path.{◌≡◌, sym, ◌∙◌}
 use contract.Lifetimes.{Lfts}
-use Rattle.learn.proofs.stage_number.Reads as stage_number
-use Rattle.learn.proofs.stage_of.Reads as stage_of
+use Rattle.learn.proofs.Stage.number.Reads as stage_number
+use Rattle.learn.proofs.Stage.of_number.Reads as stage_of
 use Rattle.learn.proofs.Learner.bare.Reads as bare
 use Rattle.learn.proofs.Learner.is_at_opening.Reads as is_at_opening_lem
 use Rattle.learn.proofs.Learner.is_sound.Reads as is_sound_lem

@@ -3,8 +3,7 @@ use Rattle.std.specs.Prelude.{ℕ, ◌-◌, Bool, ◌&&◌, cond, leb, ltb}
 use Rattle.sample.specs.declared.RearPressure.{RearPressure}
 use Rattle.sample.specs.declared.RearPressure.TheVariants.{Present, Lost}
 use Rattle.trend.specs.declared.Sums.{Sums}
-use Rattle.trend.specs.declared.Learnt.{Learnt}
-use Rattle.trend.specs.declared.Learnt.TheVariants.{Nothing}
+use Rattle.trend.specs.Result.{Learnt, Nothing}
 use Rattle.trend.specs.Points.{no_sums, with_point}
 use Rattle.trend.specs.Line.{levels_off}
 use Rattle.trend.specs.Result.{result_of}

@@ -2,8 +2,7 @@
 use Rattle.std.specs.Prelude.{ℕ, ◌+◌, ◌-◌, Bool, ◌&&◌, cond, List, [], ◌∷◌, leb, ltb, length}
 use Rattle.sample.specs.declared.RearPressure.{RearPressure}
 use Rattle.sample.specs.declared.RearPressure.TheVariants.{Present, Lost}
-use Rattle.trend.specs.declared.Learnt.{Learnt}
-use Rattle.trend.specs.declared.Learnt.TheVariants.{Nothing}
+use Rattle.trend.specs.Result.{Learnt, Nothing}
 use Rattle.trend.specs.Points.{Point, sums_of}
 use Rattle.trend.specs.Line.{levels_off}
 use Rattle.trend.specs.Result.{result_of}

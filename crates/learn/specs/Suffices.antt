@@ -3,7 +3,7 @@
 use Rattle.std.specs.Prelude.{◌≡◌, true, List, ◌∷◌, ℕ, ◌+◌, ◌-◌, ◌≤◌, ◌<◌, length}
 use Rattle.sample.specs.declared.RearPressure.{RearPressure}
 use Rattle.sample.specs.declared.RearPressure.TheVariants.{Present, Lost}
-use Rattle.trend.specs.declared.Learnt.TheVariants.{Time}
+use Rattle.trend.specs.Result.{Time}
 use Rattle.trend.specs.Points.{Point, sums_of}
 use Rattle.trend.specs.Sound.{most, most_pressure}
 use Rattle.trend.specs.Falling.{Falls}

@@ -8,22 +8,24 @@ ghost use Rattle.learn.specs.Learn.{is_front_down, timer};
 ghost use Rattle.learn.specs.Kept.{without, added_to, further_to, first_to, heard_in, timed_to, started_by, waited_in, stayed_in, taught_of};
 
 use sample::RearPressure;
-use trend::{Learnt, Sums};
+use trend::Sums;
 
-#[derive(Clone, Copy)]
+// With its number in a session's record.
+#[derive(Clone, Copy, Debug, PartialEq, Eq)]
 pub enum Stage {
-    Waiting,
+    Waiting = 0,
     // the front fell, and no rear was present since
-    FrontFell,
+    FrontFell = 1,
     // p0 is known
-    Initial,
+    Initial = 2,
     // points are
-    Falling,
-    Done,
+    Falling = 3,
+    Done = 4,
 }
 
 // What is kept from sample to sample; what a stage has no use for is 0.
-#[derive(Clone, Copy)]
+// Neither its invariant nor a stage's use of a field is part of the type: `is_sound` answers for every value, beside every stage.
+#[derive(Clone, Copy, Debug, PartialEq, Eq)]
 pub struct Learner {
     pub stage: Stage,
     // when the front fell, seconds
@@ -39,7 +41,7 @@ pub struct Learner {
 }
 
 // What a sample shows, after its update.
-#[derive(Clone, Copy)]
+#[derive(Clone, Copy, Debug, PartialEq, Eq)]
 pub struct Shown {
     // whether the brake applies or holds service
     pub service: bool,
@@ -52,34 +54,31 @@ pub struct Shown {
 }
 
 // What a sample teaches.
-#[derive(Clone, Copy)]
+#[derive(Clone, Copy, Debug, PartialEq, Eq)]
 pub struct Lesson {
     pub learner: Learner,
-    pub learnt: Learnt,
+    pub learnt: Option<u32>,
 }
 
-pub fn stage_number(stage: Stage) -> u8
-    ensures { result ≡ stage_number stage }
-{
-    match stage {
-        Stage::Waiting => 0,
-        Stage::FrontFell => 1,
-        Stage::Initial => 2,
-        Stage::Falling => 3,
-        Stage::Done => 4,
+impl Stage {
+    pub fn number(self) -> u8
+        ensures { result ≡ stage_number self }
+    {
+        self as u8
     }
-}
 
-// The stage of a number: past 3, done.
-pub fn stage_of(n: u64) -> Stage
-    ensures { result ≡ stage_of n }
-{
-    match n {
-        0 => Stage::Waiting,
-        1 => Stage::FrontFell,
-        2 => Stage::Initial,
-        3 => Stage::Falling,
-        _ => Stage::Done,
+    // The stage of a number: past 3, done. No `TryFrom`, as it answers for every number, and no `From`, which should lose nothing;
+    // no trait with `brake`'s kinds either: each has its own cases.
+    pub fn of_number(n: u64) -> Self
+        ensures { result ≡ stage_of n }
+    {
+        match n {
+            0 => Stage::Waiting,
+            1 => Stage::FrontFell,
+            2 => Stage::Initial,
+            3 => Stage::Falling,
+            _ => Stage::Done,
+        }
     }
 }
 
@@ -88,14 +87,13 @@ impl Learner {
     fn without_points(stage: Stage, since: u32, pressure: u16) -> Self
         ensures { result ≡ without_points stage since pressure }
     {
-        let sums = Sums::none();
         Self {
             stage,
             since,
             init: 0,
             last: 0,
             pressure,
-            sums,
+            sums: Sums::none(),
         }
     }
 
@@ -110,31 +108,19 @@ impl Learner {
     pub fn is_at_opening(self) -> bool
         ensures { result ≡ is_at_opening self }
     {
-        let stage = self.stage;
-        let s = self.sums;
-        (stage_number(stage) == 0)
-            & (self.since == 0)
-            & (self.init == 0)
-            & (self.last == 0)
-            & (self.pressure == 0)
-            & (s.count == 0)
-            & (s.times == 0)
-            & (s.squares == 0)
-            & (s.pressures == 0)
-            & (s.products == 0)
+        self == Self::bare(Stage::Waiting)
     }
 
     // Whether what is kept is within what a run can leave.
+    #[tactic(auto, unfolding(crate::specs::Sound::is_sound))]
     pub fn is_sound(self) -> bool
         ensures { result ≡ is_sound self }
     {
-        let s = self.sums;
-        let sound = s.is_sound();
         (self.since <= 0xff_ffff)
             & (self.init <= 599)
             & (self.last <= 599)
             & (self.pressure <= 16_000)
-            & sound
+            & self.sums.is_sound()
     }
 }
 
@@ -143,7 +129,7 @@ fn without(learner: Learner) -> Lesson
 {
     Lesson {
         learner,
-        learnt: Learnt::Nothing,
+        learnt: None,
     }
 }
 
@@ -155,93 +141,100 @@ fn is_front_down(s: Shown) -> bool
 }
 
 // Seconds since the front fell.
-fn timer(s: Shown, since: u32) -> u64
+fn timer(s: Shown, since: u32) -> u32
     ensures { result ≡ timer s since }
 {
-    whole::above(s.time as u64, since as u64)
+    s.time.saturating_sub(since)
 }
 
-// The point (t, p) is added; where the pressure levels off, the line before it gives the result.
-fn added(l: Learner, s: Shown, t: u16, p: u16) -> Lesson
-    requires sound { Sound l }
-    requires timely { t < 600 }
-    ensures { result ≡ added_to l s t p }
-{
-    let before = l.sums;
-    let sums = before.with_point(t, p);
-    let fall = whole::above(l.pressure as u64, p as u64) as u16;
-    let seconds = whole::above(t as u64, l.last as u64) as u16;
-    let is_complete = (4 <= sums.count) & trend::levels_off(fall, seconds, sums);
-    if is_complete {
-        let learnt = trend::result(l.init, s.equalization, p, before);
-        return Lesson {
-            learner: Learner::bare(Stage::Done),
-            learnt,
-        };
-    }
-    without(Learner {
-        stage: Stage::Falling,
-        since: l.since,
-        init: l.init,
-        last: t,
-        pressure: p,
-        sums,
-    })
+// A sound learner, `l` in the methods as in the definitions, and a sample in time: fewer than 600 seconds since the front fell.
+// `timed` makes it; before that, learner and sample go by themselves, as the public `taught` takes them.
+#[derive(Clone, Copy)]
+struct InTime {
+    learner: Learner,
+    shown: Shown,
+    ghost sound: { Sound learner },
+    ghost timely: { timer shown learner.since < 600 },
 }
 
-// A present rear behind points: where it fell further, it is one more.
-fn further(l: Learner, s: Shown, p: u16) -> Lesson
-    requires sound { Sound l }
-    requires timely { timer s l.since < 600 }
-    ensures { result ≡ further_to l s p }
-{
-    if l.pressure <= p {
-        return without(l);
+impl InTime {
+    // The point (t, p) is added; where the pressure levels off, the line before it gives the result.
+    #[tactic(auto, unfolding(crate::specs::Kept::added_to))]
+    fn added(self, t: u16, p: u16) -> Lesson
+        requires { t < 600 }
+        ensures { result ≡ added_to self.learner self.shown t p }
+    {
+        let l = self.learner;
+        let sums = l.sums.with_point(t, p);
+        let fall = l.pressure.saturating_sub(p);
+        let seconds = t.saturating_sub(l.last);
+        if (4 <= sums.count) & trend::levels_off(fall, seconds, sums) {
+            return Lesson {
+                learner: Learner::bare(Stage::Done),
+                learnt: trend::result(l.init, self.shown.equalization, p, l.sums),
+            };
+        }
+        without(Learner {
+            stage: Stage::Falling,
+            last: t,
+            pressure: p,
+            sums,
+            ..l
+        })
     }
-    if Sums::MOST <= l.sums.count {
-        return without(Learner::bare(Stage::Done));
-    }
-    let t = whole::above(timer(s, l.since), l.init as u64);
-    added(l, s, t as u16, p)
-}
 
-// A present rear behind p0: three psi off, it is the first point.
-fn first(l: Learner, s: Shown, p: u16) -> Lesson
-    requires { timer s l.since < 600 }
-    ensures { result ≡ first_to l s p }
-{
-    if (l.pressure as u32) < p as u32 + 300 {
-        return without(l);
+    // A present rear behind points: where it fell further, it is one more.
+    #[tactic(auto, unfolding(crate::specs::Kept::further_to))]
+    fn further(self, p: u16) -> Lesson
+        ensures { result ≡ further_to self.learner self.shown p }
+    {
+        let l = self.learner;
+        if l.pressure <= p {
+            return without(l);
+        }
+        if Sums::MOST <= l.sums.count {
+            return without(Learner::bare(Stage::Done));
+        }
+        let t = timer(self.shown, l.since).saturating_sub(l.init as u32);
+        self.added(t as u16, p)
     }
-    let init = timer(s, l.since);
-    let sums = Sums::none().with_point(0, p);
-    without(Learner {
-        stage: Stage::Falling,
-        since: l.since,
-        init: init as u16,
-        last: 0,
-        pressure: p,
-        sums,
-    })
-}
 
-// A present rear, in time.
-fn heard(l: Learner, s: Shown, p: u16) -> Lesson
-    requires sound { Sound l }
-    requires timely { timer s l.since < 600 }
-    ensures { result ≡ heard_in l.stage l s p }
-{
-    let stage = l.stage;
-    match stage {
-        Stage::Waiting => without(l),
-        Stage::FrontFell => without(Learner::without_points(Stage::Initial, l.since, p)),
-        Stage::Initial => first(l, s, p),
-        Stage::Falling => further(l, s, p),
-        Stage::Done => without(l),
+    // A present rear behind p0: three psi off, it is the first point.
+    #[tactic(auto, unfolding(crate::specs::Kept::first_to))]
+    fn first(self, p: u16) -> Lesson
+        ensures { result ≡ first_to self.learner self.shown p }
+    {
+        let l = self.learner;
+        if (l.pressure as u32) < p as u32 + 300 {
+            return without(l);
+        }
+        without(Learner {
+            stage: Stage::Falling,
+            init: timer(self.shown, l.since) as u16,
+            last: 0,
+            pressure: p,
+            sums: Sums::none().with_point(0, p),
+            ..l
+        })
+    }
+
+    // A present rear. A match and no closure, as in `taught`: a session's record holds the stage, and no record holds a function.
+    #[tactic(auto, unfolding(crate::specs::Kept::heard_in))]
+    fn heard(self, p: u16) -> Lesson
+        ensures { result ≡ heard_in self.learner.stage self.learner self.shown p }
+    {
+        let l = self.learner;
+        match l.stage {
+            Stage::Waiting | Stage::Done => without(l),
+            Stage::FrontFell => without(Learner::without_points(Stage::Initial, l.since, p)),
+            Stage::Initial => self.first(p),
+            Stage::Falling => self.further(p),
+        }
     }
 }
 
 // A sample since the front fell.
+#[tactic(auto, unfolding(crate::specs::Kept::timed_to))]
 fn timed(l: Learner, s: Shown) -> Lesson
     requires { Sound l }
     ensures { result ≡ timed_to l s }
@@ -249,19 +242,22 @@ fn timed(l: Learner, s: Shown) -> Lesson
     if 600 <= timer(s, l.since) {
         return without(Learner::bare(Stage::Done));
     }
-    let rear = s.rear;
-    match rear {
-        RearPressure::Present(p) => heard(l, s, p),
+    let in_time = InTime {
+        learner: l,
+        shown: s,
+    };
+    match s.rear {
+        RearPressure::Present(p) => in_time.heard(p),
         RearPressure::Lost => without(l),
     }
 }
 
 // The front fell now.
+#[tactic(auto, unfolding(crate::specs::Kept::started_by))]
 fn started(s: Shown) -> Learner
     ensures { result ≡ started_by s s.rear }
 {
-    let rear = s.rear;
-    match rear {
+    match s.rear {
         RearPressure::Present(p) => Learner::without_points(Stage::Initial, s.time, p),
         RearPressure::Lost => Learner::without_points(Stage::FrontFell, s.time, 0),
     }
@@ -288,6 +284,7 @@ fn stayed(s: Shown) -> Learner
 }
 
 // What an accepted sample teaches.
+#[tactic(auto, unfolding(crate::specs::Kept::taught_of, crate::specs::Kept::in_stage))]
 pub fn taught(l: Learner, s: Shown) -> Lesson
     requires { Sound l }
     ensures { result ≡ taught_of l s }
@@ -295,12 +292,9 @@ pub fn taught(l: Learner, s: Shown) -> Lesson
     if !s.service {
         return without(Learner::bare(Stage::Waiting));
     }
-    let stage = l.stage;
-    match stage {
+    match l.stage {
         Stage::Waiting => without(waited(s)),
-        Stage::FrontFell => timed(l, s),
-        Stage::Initial => timed(l, s),
-        Stage::Falling => timed(l, s),
+        Stage::FrontFell | Stage::Initial | Stage::Falling => timed(l, s),
         Stage::Done => without(stayed(s)),
     }
 }

@@ -14,8 +14,7 @@ use Rattle.refusal.specs.Number.{number_of, number_of_verdict, told}
 use Rattle.refusal.specs.Written.{no_room, written}
 use Rattle.refusal.specs.declared.Refusal.{Refusal}
 use Rattle.refusal.specs.declared.Refusal.TheVariants.{NoSession, WrongLength, OutOfRange, TooLight, NoRoom, BrokenBlocks}
-use Rattle.refusal.specs.declared.Verdict.{Verdict}
-use Rattle.refusal.specs.declared.Verdict.TheVariants.{Accepted, Refused}
+use Rattle.refusal.specs.Verdict.{Verdict, Accepted, Refused}
 use Rattle.refusal.proofs.Order.{last_passed}
 use Rattle.refusal.proofs.Numbers.{verdict_accepted}
 use Rattle.refusal.proofs.Steps.{first_of, in_order}
@@ -23,8 +22,7 @@ use Rattle.consist.specs.Consist.{consist_in, too_short, out_of_range, too_light
 use Rattle.consist.specs.Consist as consist
 use Rattle.brake.specs.declared.Choice.{Choice}
 use Rattle.session.specs.declared.Session.{Session}
-use Rattle.session.specs.declared.Answer.{Answer}
-use Rattle.session.specs.Session.{is_open, none_open, call_told}
+use Rattle.session.specs.Session.{Answer, is_open, none_open, call_told}
 use Rattle.session.specs.Open.{opened_with, opened_by, open_of}
 use Rattle.sampling.specs.Sample.{sample_call}
 use Rattle.sampling.specs.Laws.{OpensOpen, StaysOpen}

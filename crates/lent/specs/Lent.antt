@@ -5,12 +5,11 @@ use Rattle.refusal.specs.Lowest.{Rule, lowest}
 use Rattle.refusal.specs.Number.{number_of, number_of_verdict, told}
 use Rattle.refusal.specs.Written.{no_room, written}
 use Rattle.refusal.specs.declared.Refusal.TheVariants.{NoSession, WrongLength, NoRoom, BrokenBlocks}
-use Rattle.refusal.specs.declared.Verdict.{Verdict}
-use Rattle.refusal.specs.declared.Verdict.TheVariants.{Accepted, Refused}
+use Rattle.refusal.specs.Verdict.{Verdict, Accepted, Refused}
 use Rattle.consist.specs.Consist.{consist_in, too_short, rules, broken_behind}
 use Rattle.brake.specs.declared.Choice.{Choice}
 use Rattle.session.specs.declared.Session.{Session}
-use Rattle.session.specs.declared.Answer.{Answer}
+use Rattle.session.specs.Session.{Answer}
 use Rattle.session.specs.Open.{opened_with}
 use Rattle.sampling.specs.Sample.{lines_of, sample_call}
 use Rattle.held.specs.Held.{most, record_at, session_in, bytes_of, no_session, read_session}

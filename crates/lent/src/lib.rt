@@ -1,5 +1,6 @@
 // A session in lent bytes, its buffer: its record, which crates `held` and `stored` read and write, stands at their start, and zeros behind it, 326 bytes
-// in all. No call reads a byte past the record or writes one past these. An answer is the refusal's number, 0 for none.
+// in all. No call reads a byte past the record or writes one past these. Parameters and answers are as exported calls of crate `buongilach` have them: the
+// number of a refusal, 0 for none, and a time of 0 for none.
 #![tactic(auto)]
 
 ghost use Rattle.std.specs.Prelude.{◌≡◌, true, ◌++◌, ◌≤◌, length, drop};
@@ -9,34 +10,32 @@ ghost use Rattle.lent.specs.Lent.{zeros, buffer_of, with_room, open_bytes, sampl
 
 use brake::Choice;
 use held::MOST;
-use refusal::{Refusal, Verdict};
+use refusal::Refusal;
 use session::Session;
 
 // Sets every byte to zero.
 fn clear(s: &mut [u8])
     ensures { s.new ≡ zeros (length s.old) }
 {
-    for i in 0..s.len() {
-        s[i] = 0;
-    }
+    s.fill(0);
 }
 
-// Puts the session's buffer over the first 326 bytes.
-fn put(x: Session, session: &mut [u8])
-    requires opened { is_open x ≡ true }
+// Puts the session's buffer over the first 326 bytes. That the session is open is asked and no invariant: one that is not has a value too.
+fn put(x: &Session, session: &mut [u8])
+    requires opened { is_open x.now ≡ true }
     requires room { most ≤ length session.old }
-    ensures { session.new ≡ buffer_of x ++ drop most session.old }
+    ensures { session.new ≡ buffer_of x.now ++ drop most session.old }
 {
     clear(&mut session[..MOST]);
     // not refused: the session is open, and there is room for any
-    stored::write(x, session);
+    let _ = stored::write(*x, session);
 }
 
-// What an opening is told, where its consist is told this: 12 is below 13, and given where a buffer has too few bytes and nothing lower is due.
+// What an opening is told, by number as C reads it, where its consist is told this: 12 is below 13, and given where a buffer has too few bytes and nothing lower is due.
 fn with_room(told: u8, room: usize) -> u8
     ensures { result ≡ with_room told room }
 {
-    let full = refusal::number(Refusal::NoRoom);
+    let full = Refusal::NoRoom.number();
     if (room < MOST) & ((told == 0) | (full <= told)) {
         return full;
     }
@@ -47,15 +46,13 @@ fn with_room(told: u8, room: usize) -> u8
 pub fn open(session: &mut [u8], consist: &[u8], choice: Choice) -> u8
     ensures { (result, session.new) ≡ open_bytes consist.now session.old choice }
 {
-    let answer = session::open(session::none(), consist, choice);
-    let verdict = answer.verdict;
-    let told = refusal::verdict_number(verdict);
+    let mut x = session::none();
+    let told = refusal::verdict_number(session::open(&mut x, consist, choice));
     let number = with_room(told, session.len());
     if number != 0 {
         return number;
     }
-    let opened = answer.session;
-    put(opened, session);
+    put(&x, session);
     0
 }
 
@@ -69,19 +66,14 @@ pub fn sample(
 ) -> u8
     ensures { (result, session.new, decision.new) ≡ sample_bytes session.old sample.now profile.now targets.now decision.old }
 {
-    let found = held::read_start(&session[..]);
-    let read = found.verdict;
-    let Verdict::Accepted = read else {
-        return refusal::verdict_number(read);
+    let mut x = match held::read_start(&session[..]) {
+        Ok(x) => x,
+        Err(r) => return r.number(),
     };
-    let x = found.session;
-    let answer = sampling::sample(x, sample, profile, targets, decision);
-    let judged = answer.verdict;
-    let Verdict::Accepted = judged else {
-        return refusal::verdict_number(judged);
-    };
-    let next = answer.session;
-    put(next, session);
+    if let Err(r) = sampling::sample(&mut x, sample, profile, targets, decision) {
+        return r.number();
+    }
+    put(&x, session);
     0
 }
 
@@ -89,20 +81,15 @@ pub fn sample(
 pub fn is_open(session: &[u8]) -> bool
     ensures { result ≡ is_open_bytes session.now }
 {
-    let found = held::read_start(session);
-    let verdict = found.verdict;
-    refusal::verdict_number(verdict) == 0
+    held::read_start(session).is_ok()
 }
 
 // The application time in force, in ms; 0 where the buffer begins with no open session's record.
 pub fn application(session: &[u8]) -> u32
     ensures { result ≡ application_bytes session.now }
 {
-    let found = held::read_start(session);
-    let verdict = found.verdict;
-    let Verdict::Accepted = verdict else {
+    let Ok(x) = held::read_start(session) else {
         return 0;
     };
-    let x = found.session;
     x.consist.application
 }

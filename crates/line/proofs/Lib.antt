@@ -1,6 +1,3 @@
--- Laws that several proofs cite, and uniqueness.
-pub mod Decimal
-pub mod Put
-pub mod Spaced
+-- How long a line is, and uniqueness.
 pub mod Fits
 pub mod Unique

@@ -1,12 +1,14 @@
 -- What the session program prints: a line for each decision of a sample, and one for a refusal. Definitions only.
-use Rattle.std.specs.Prelude.{ℕ, zero, suc, ◌+◌, ◌-◌, ◌*◌, ◌/◌, ◌%◌, List, [], ◌∷◌, ◌++◌, Bool, true, false, length, take, drop, ltb}
+use Rattle.std.specs.Prelude.{ℕ, List, [], ◌∷◌, ◌++◌, take, drop, Result, Ok, Err, Option, Some, None}
+pub use Rattle.std.specs.Fmt.{decimal}
 use Rattle.refusal.specs.declared.Refusal.{Refusal}
-use Rattle.refusal.specs.declared.Verdict.{Verdict}
-use Rattle.refusal.specs.declared.Verdict.TheVariants.{Accepted, Refused}
+use Rattle.refusal.specs.Verdict.{Verdict, Accepted, Refused}
 use Rattle.refusal.specs.Number.{number_of}
 use Rattle.decision.specs.declared.Decision.{Decision}
 use Rattle.bits.specs.Fields.{bit}
 use Rattle.decision.specs.Decision.{size, read_decision}
+use Rattle.line.specs.declared.Line.{Line}
+use Rattle.line.specs.declared.Lines.{Lines}
 
 -- ---- the text
 
@@ -19,24 +21,6 @@ space = 32
 -- `x`
 abbrev pub cross : ℕ
 cross = 120
-
--- the character of a digit
-abbrev pub glyph : ℕ → ℕ
-glyph d = 48 + d
-
--- nothing stands before the digit of a number below ten
-abbrev pub unless_below : Bool → List ℕ → List ℕ
-unless_below true front = []
-unless_below false front = front
-
--- the digits of n, at most k of them: those of its tenth, unless n is below ten, and after them the last
-unfoldable pub last_digits : ℕ → ℕ → List ℕ
-last_digits zero n = []
-last_digits (suc k) n = let front = last_digits k (n / 10) in unless_below (ltb n 10) front ++ glyph (n % 10) ∷ []
-
--- "decimal": all the digits of n, which are at most n + 1
-unfoldable pub decimal : ℕ → List ℕ
-decimal n = last_digits (suc n) n
 
 -- what stands between a number and the rest of its line; "Every line ends with a newline."
 abbrev pub separator : List ℕ → ℕ
@@ -76,19 +60,18 @@ second_record s = take size (drop size s)
 abbrev pub sample_text : Verdict → List ℕ → List ℕ
 sample_text v s = unless_refused v (record_text (read_decision (first_record s)) ++ record_text (read_decision (second_record s)))
 
--- ---- where it stands: the text before a place of the lent bytes, the place where it begins, and no other byte changed
+-- ---- the same of what the code prints
 
-unfoldable pub put_before : List ℕ → ℕ → List ℕ → ℕ × List ℕ
-put_before text end out = (end - length text, take (end - length text) out ++ (text ++ drop end out))
+abbrev pub read_text : Result Decision Refusal → List ℕ
+read_text (Ok d) = decision_text d
+read_text (Err r) = refusal_text r
 
--- at the end of the lent bytes
-abbrev pub put_last : List ℕ → List ℕ → ℕ × List ℕ
-put_last text out = put_before text (length out) out
+abbrev pub line_text : Line → List ℕ
+line_text l = read_text l.0
 
--- bytes that hold any line: five numbers of 32 bits, so of up to ten digits, each with a byte after it
-abbrev pub line_room : ℕ
-line_room = 5 * 11
+abbrev pub second_text : Option Line → List ℕ
+second_text None = []
+second_text (Some l) = line_text l
 
--- bytes that hold a sample's two lines
-abbrev pub room : ℕ
-room = 2 * line_room
+abbrev pub lines_text : Lines → List ℕ
+lines_text l = line_text l.first ++ second_text l.second

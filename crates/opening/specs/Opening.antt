@@ -1,14 +1,21 @@
 -- "consist, two-byte record count (high byte first) and profile, one-byte count and targets", and behind the consist (02, R-1) "a one-byte block count
 -- follows the consist": what a count announces, and when a list is taken. Definitions only.
-use Rattle.std.specs.Prelude.{◌≡◌, ℕ, ◌*◌, List, [], ◌∷◌, Bool, true, false, ◌&&◌, cond, length, leb, eqb}
+use Rattle.std.specs.Prelude.{Option, Some, None, ◌≡◌, ℕ, ◌*◌, List, [], ◌∷◌, Bool, true, false, ◌&&◌, cond, length, leb, eqb}
 use Rattle.bits.specs.Bytes.{num}
-use Rattle.refusal.specs.declared.Verdict.{Verdict}
-use Rattle.refusal.specs.declared.Verdict.TheVariants.{Accepted, Refused}
+use Rattle.refusal.specs.Verdict.{Verdict, Accepted, Refused}
 use Rattle.blocks.specs.Blocks as blocks
 use Rattle.profile.specs.Profile as profile
 use Rattle.targets.specs.Targets as targets
-use Rattle.opening.specs.declared.Part.{Part}
-use Rattle.opening.specs.declared.Part.TheVariants.{Bytes, Broken}
+
+-- a part of the feed: how many bytes it has, or none where it breaks a rule
+abbrev pub Part : Type 0
+Part = Option ℕ
+
+pattern abbrev pub Bytes : ℕ → Part
+Bytes n = Some n
+
+pattern abbrev pub Broken : Part
+Broken = None
 
 -- 02, R-7: the word that asks for "the old choice in the opening", `everlasting`
 abbrev pub everlasting : List ℕ

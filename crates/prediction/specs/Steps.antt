@@ -13,7 +13,7 @@ use Rattle.track.specs.Track.{lay_of}
 use Rattle.track.specs.Gentle.{Gentle}
 use Rattle.step.specs.declared.Curve.{Curve}
 use Rattle.step.specs.Curve.{emergency_curve}
-use Rattle.prediction.specs.declared.Listed.{Listed}
+use Rattle.judge.specs.declared.Listed.{Listed}
 
 -- the targets, place by place
 abbrev pub listed_of : List ℕ → Listed

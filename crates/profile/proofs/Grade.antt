@@ -5,7 +5,7 @@ use Prim.Native.Nat.{ℕ, suc, ◌+◌, ◌-◌, ◌%◌, ◌≤◌, ◌<◌, �
 use native.Mathlib.Decide.{dec_lt}
 use native.Mathlib.Omega.{arith}
 use lib.Dec.{leb, eqb, leb-suc-suc, eqb-suc-zero}
-use lib.IntN.{ℤ, pos, negsuc, nat_abs, ◌+ℤ◌}
+use lib.IntN.{ℤ, pos, negsuc, nat_abs}
 use lib.Signed.{mag, le_z}
 use mir.Syntax.{w16}
 use mir.Val.{of_z}
@@ -44,10 +44,6 @@ in_eleven (negsuc n) h = omega arith
 abbrev pub raised : ℤ → ℕ
 raised (pos n) = n + 2 ^ 11
 raised (negsuc n) = 2 ^ 11 - suc n
-
-pub lifted : (z : ℤ) → mag z < 2 ^ 10 → z +ℤ pos (2 ^ 11) ≡ pos (raised z)
-lifted (pos n) h = refl
-lifted (negsuc n) h = rw (le-ltb (2 ^ 11) (suc n) (omega arith))
 
 pub lowest_bits : (z : ℤ) → mag z < 2 ^ 10 → (raised z < 2 ^ 12) × (raised z % 2 ^ 11 ≡ grade_bits z)
 lowest_bits (pos n) h = omega arith

@@ -1,6 +1,6 @@
 -- What one segment and its fields have to do with each other, and what the judge and the writer accept, said of the numbers. Assumes nothing.
 use mathlib.Core.Path.{◌≡◌, refl, sym, ap, ap₂, ◌∙◌}
-use mathlib.Core.Bool.{Bool, true, ◌&&◌, and_assoc}
+use mathlib.Core.Bool.{Bool, true, ◌&&◌}
 use mathlib.Core.List.{List, [], ◌∷◌}
 use Prim.Native.Nat.{ℕ, ◌/◌, ◌%◌, ◌^◌, ◌≤◌, ◌<◌}
 use native.Mathlib.Omega.{arith}
@@ -13,13 +13,12 @@ use mir.Val.{of_z}
 use borrow.Author.Tests.{leb-true, eqb-true}
 use Rattle.bits.specs.Fields.{split, Fit}
 use Rattle.bits.proofs.Ranges.{and-true_left, and-true_right}
-use Rattle.refusal.specs.declared.Verdict.TheVariants.{Accepted}
-use Rattle.table.specs.Table as specs
+use Rattle.refusal.specs.Verdict.{Accepted}
 use Rattle.table.proofs.Records as records
-use Rattle.table.proofs.Records.{Facts}
+use Rattle.table.specs.Facts.{Facts}
 use Rattle.table.proofs.Judging as table
 use Rattle.profile.specs.declared.Segment.{Segment}
-use Rattle.profile.specs.Profile.{fewest, most, widths, fields_of, of_fields, spare_zero, steepest, sharpest, in_range, ends, segments, counted, count, segment_at, lawful_in, judge_profile, same}
+use Rattle.profile.specs.Profile.{widths, fields_of, of_fields, spare_zero, steepest, sharpest, in_range, ends, segments, count, segment_at, lawful_in, judge_profile, same}
 use Rattle.profile.specs.Sound.{Ranged, Sound}
 use Rattle.profile.proofs.Grade.{bits_of_grade, grade_of_bits, in_eleven, lowest_bits, zero_bits}
 
@@ -64,11 +63,7 @@ pub ends_is : (g : Segment) → mag g.grade < 2 ^ 15 → eqb (of_z w16 g.grade) 
 unfolding ends
 ends_is g h = ap (λ (b : Bool). b && eqb g.curvature 0) (zero_bits g.grade h)
 
--- ---- how many
-
-pub counted_is : (whole : Bool) (n : ℕ) → whole && leb fewest n && leb n most ≡ whole && counted n
-unfolding specs.counted
-counted_is whole n = and_assoc whole (leb fewest n) (leb n most)
+-- ---- lists of one length
 
 pub lengths : (starts : List ℕ) (grades : List ℤ) (curvatures : List ℕ) → same starts grades curvatures ≡ true
     → (length grades ≡ length starts) × (length curvatures ≡ length starts)

@@ -1,17 +1,18 @@
-// The profile: records of 6 bytes, each a segment of track.
+//! The profile: records of 6 bytes, each a segment of track.
 #![tactic(auto)]
 
-ghost use Rattle.std.specs.Prelude.{◌≡◌, true, ◌&&◌, ◌||◌, ◌^◌, ◌<◌, length, eqb, ltb};
+ghost use Rattle.std.specs.Prelude.{◌≡◌, true, ◌^◌, ◌<◌, length};
 ghost use Rattle.std.specs.Int.Signed.{mag};
-ghost use Rattle.bits.specs.Places.{put_from};
-ghost use Rattle.refusal.specs.Number.{told};
+ghost use Rattle.refusal.specs.Number.{told, answer_of};
 ghost use Rattle.profile.specs.Grade.{grade_of, grade_bits};
-ghost use Rattle.profile.specs.Profile.{widths, fields_of, in_range, segment_at, lawful_in, judge_profile, segment_of, lawful_of, write_profile};
+ghost use Rattle.profile.specs.Laws.{sizes};
+ghost use Rattle.profile.specs.Profile.{segments, segment_at, judge_profile, segment_of, same, write_profile};
 
-use refusal::{Refusal, Step, Verdict};
+use refusal::{Refusal, Verdict};
+use table::rows::{Record, Rows};
 
 // The track from a record's start to the next one's.
-#[derive(Clone, Copy)]
+#[derive(Clone, Copy, Debug, PartialEq, Eq)]
 pub struct Segment {
     // feet
     pub start: u32,
@@ -37,14 +38,7 @@ impl Segment {
     pub const SHARPEST: u16 = 2_000;
 }
 
-// What judging a profile answers: how many records it has; none where it is refused.
-#[derive(Clone, Copy)]
-pub struct Judged {
-    pub verdict: Verdict,
-    pub records: usize,
-}
-
-// The grade that eleven bits are.
+// The grade that eleven bits are. No `From` to or from bits: both types are std's.
 fn grade_of(n: u64) -> i16
     requires { n < 2 ^ 11 }
     ensures { result ≡ grade_of n }
@@ -56,101 +50,6 @@ fn grade_of(n: u64) -> i16
     }
 }
 
-// Record k; past the last whole record, one of zeros.
-pub fn segment_at(p: &[u8], k: usize) -> Segment
-    ensures { result ≡ segment_at p.now k }
-{
-    let s = table::record(p, Segment::SIZE, k);
-    Segment {
-        start: bits::field(s, 0, 24) as u32,
-        grade: grade_of(bits::field(s, 24, 11)),
-        curvature: bits::field(s, 35, 11) as u16,
-    }
-}
-
-// Whether a segment may be record k, after one that starts at `before`: it is in range, and starts above that.
-fn good_after(g: Segment, k: usize, before: u32) -> bool
-    ensures { result ≡ (in_range g && (eqb k 0 || ltb before g.start)) }
-{
-    (Segment::STEEPEST_DOWN <= g.grade)
-        & (g.grade <= Segment::STEEPEST_UP)
-        & (g.curvature <= Segment::SHARPEST)
-        & (g.start <= record::FARTHEST)
-        & ((k == 0) | (before < g.start))
-}
-
-// Whether bytes keep every rule of a profile.
-fn bytes_keep(p: &[u8]) -> bool
-    ensures { result ≡ lawful_in p.now }
-{
-    let n = p.len() / Segment::SIZE;
-    if !((p.len() % Segment::SIZE == 0) & (Segment::FEWEST <= n) & (n <= Segment::MOST)) {
-        return false;
-    }
-    let last = n - 1;
-    let mut good = true;
-    let mut before: u32 = 0;
-    for k in 0..n {
-        let g = segment_at(p, k);
-        let spare_zero = bits::field(table::record(p, Segment::SIZE, k), 46, 2) == 0;
-        good = good & (spare_zero & good_after(g, k, before));
-        before = g.start;
-    }
-    let end = segment_at(p, last);
-    good & ((end.grade == 0) & (end.curvature == 0))
-}
-
-pub fn judge(p: &[u8]) -> Judged
-    ensures { told (result.verdict, result.records) ≡ told (judge_profile p.now) }
-{
-    let Step::On = refusal::unless(!bytes_keep(p)) else {
-        return Judged {
-            verdict: Verdict::Refused(Refusal::BrokenProfile),
-            records: 0,
-        };
-    };
-    Judged {
-        verdict: Verdict::Accepted,
-        records: p.len() / Segment::SIZE,
-    }
-}
-
-// Record k of three lists.
-fn row_at(starts: &[u32], grades: &[i16], curvatures: &[u16], k: usize) -> Segment
-    requires { (k < length starts.now) × (k < length grades.now) × (k < length curvatures.now) }
-    ensures { result ≡ segment_of starts.now grades.now curvatures.now k }
-{
-    Segment {
-        start: starts[k],
-        grade: grades[k],
-        curvature: curvatures[k],
-    }
-}
-
-// Whether three lists keep every rule of a profile.
-fn rows_keep(starts: &[u32], grades: &[i16], curvatures: &[u16]) -> bool
-    ensures { result ≡ lawful_of starts.now grades.now curvatures.now }
-{
-    let rows = starts.len();
-    if !((grades.len() == rows)
-        & (curvatures.len() == rows)
-        & (Segment::FEWEST <= rows)
-        & (rows <= Segment::MOST))
-    {
-        return false;
-    }
-    let last = rows - 1;
-    let mut good = true;
-    let mut before: u32 = 0;
-    for k in 0..rows {
-        let g = row_at(starts, grades, curvatures, k);
-        good = good & good_after(g, k, before);
-        before = g.start;
-    }
-    let end = row_at(starts, grades, curvatures, last);
-    good & ((end.grade == 0) & (end.curvature == 0))
-}
-
 // The eleven bits of a grade.
 fn grade_bits(grade: i16) -> u64
     requires { mag grade < 2 ^ 10 }
@@ -159,29 +58,133 @@ fn grade_bits(grade: i16) -> u64
     (grade + 0x800) as u64 % 0x800
 }
 
-// Writes a segment's record over the front of `out`.
-fn put(g: Segment, out: &mut [u8])
-    requires { in_range g ≡ true }
-    ensures { out.new ≡ put_from 0 widths (fields_of g) out.old }
-{
-    let widths = [24, 11, 11, 2];
-    let values = [g.start as u64, grade_bits(g.grade), g.curvature as u64, 0];
-    bits::put_fields(out, 0, &widths, &values);
+impl Record for Segment {
+    ghost layout = { segments };
+
+    const SIZE: usize = Segment::SIZE;
+
+    ghost SIZE = { 6 };
+
+    const FEWEST: usize = Segment::FEWEST;
+
+    ghost FEWEST = { 2 };
+
+    const MOST: usize = Segment::MOST;
+
+    ghost MOST = { 257 };
+
+    fn at(s: &[u8], k: usize) -> Segment {
+        let s = table::record(s, Segment::SIZE, k);
+        Segment {
+            start: bits::field(s, 0, 24) as u32,
+            grade: grade_of(bits::field(s, 24, 11)),
+            curvature: bits::field(s, 35, 11) as u16,
+        }
+    }
+
+    fn is_clean_at(s: &[u8], k: usize) -> bool {
+        bits::field(table::record(s, Segment::SIZE, k), 46, 2) == 0
+    }
+
+    fn is_in_range(&self) -> bool {
+        (Segment::STEEPEST_DOWN <= self.grade)
+            & (self.grade <= Segment::STEEPEST_UP)
+            & (self.curvature <= Segment::SHARPEST)
+            & (self.start <= record::FARTHEST)
+    }
+
+    fn key(&self) -> u32 {
+        self.start
+    }
+
+    // The last one only ends the profile.
+    fn may_end(&self) -> bool {
+        (self.grade == 0) & (self.curvature == 0)
+    }
+
+    // All records are put by `bits::put_fields`, which takes widths beside values: those are each record's own.
+    fn put_at(&self, out: &mut [u8], k: usize) {
+        let at = Segment::SIZE * k;
+        let widths = [24, 11, 11, 2];
+        let values = [
+            self.start as u64,
+            grade_bits(self.grade),
+            self.curvature as u64,
+            0,
+        ];
+        bits::put_fields(&mut out[at..], 0, &widths, &values);
+    }
+
+    fn broken() -> Refusal {
+        Refusal::BrokenProfile
+    }
+
+    ghost sizes = { sizes };
 }
 
-// Writes the records to the front of `out`, a record for each start, grade and curvature.
+// Segments as lists: a start, a grade and a curvature for each.
+#[derive(Clone, Copy)]
+struct Lists<'a> {
+    starts: &'a [u32],
+    grades: &'a [i16],
+    curvatures: &'a [u16],
+}
+
+impl<'a> Rows for Lists<'a> {
+    type Item = Segment;
+
+    ghost whole = { λ t. same t.starts.now t.grades.now t.curvatures.now };
+
+    ghost count = { λ t. length t.starts.now };
+
+    ghost nth = { λ t k. segment_of t.starts.now t.grades.now t.curvatures.now k };
+
+    ghost clean = { λ t k. true };
+
+    fn are_whole(&self) -> bool {
+        (self.grades.len() == self.starts.len()) & (self.curvatures.len() == self.starts.len())
+    }
+
+    fn count(&self) -> usize {
+        self.starts.len()
+    }
+
+    fn row(&self, k: usize) -> Segment {
+        Segment {
+            start: self.starts[k],
+            grade: self.grades[k],
+            curvature: self.curvatures[k],
+        }
+    }
+
+    fn is_clean(&self, _k: usize) -> bool {
+        true
+    }
+}
+
+// Record k; past the last whole record, one of zeros. This, `judge` and `write` are `table`'s, by their public names.
+pub fn segment_at(p: &[u8], k: usize) -> Segment
+    ensures { result ≡ segment_at p.now k }
+{
+    Segment::at(p, k)
+}
+
+// How many records a profile has.
+pub fn judge(p: &[u8]) -> Result<usize, Refusal>
+    ensures { told (answer_of 0 result) ≡ told (judge_profile p.now) }
+{
+    table::rows::judge::<Segment>(p)
+}
+
+// Writes the records to the front of `out`, a record for each start, grade and curvature: lists, as C gives them (`buongilach_write_profile`).
+#[tactic(auto, using(crate::proofs::Sound::facts))]
 pub fn write(starts: &[u32], grades: &[i16], curvatures: &[u16], out: &mut [u8]) -> Verdict
     ensures { told (result, out.new) ≡ told (write_profile starts.now grades.now curvatures.now out.old) }
 {
-    let Step::On = refusal::unless(!rows_keep(starts, grades, curvatures)) else {
-        return Verdict::Refused(Refusal::BrokenProfile);
+    let lists = Lists {
+        starts,
+        grades,
+        curvatures,
     };
-    let Step::On = refusal::unless(out.len() < Segment::SIZE * starts.len()) else {
-        return Verdict::Refused(Refusal::NoRoom);
-    };
-    for k in 0..starts.len() {
-        let at = Segment::SIZE * k;
-        put(row_at(starts, grades, curvatures, k), &mut out[at..]);
-    }
-    Verdict::Accepted
+    table::rows::write(&lists, out)
 }

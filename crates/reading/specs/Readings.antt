@@ -7,8 +7,7 @@ use Rattle.sample.specs.declared.RearPressure.{RearPressure}
 use Rattle.sample.specs.declared.RearPressure.TheVariants.{Present, Lost}
 use Rattle.brake.specs.declared.Choice.{Choice}
 use Rattle.brake.specs.declared.Choice.TheVariants.{FiveSeconds, Everlasting}
-use Rattle.brake.specs.declared.Heard.{Heard}
-use Rattle.brake.specs.declared.Heard.TheVariants.{Never, At}
+use Rattle.brake.specs.Rear.{Heard, Never, At}
 use Rattle.brake.specs.declared.Brake.{Brake}
 use Rattle.reading.specs.declared.Reading.{Reading}
 

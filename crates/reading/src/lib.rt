@@ -4,12 +4,12 @@
 ghost use Rattle.std.specs.Prelude.{◌≡◌};
 ghost use Rattle.reading.specs.Readings.{elapsed_of, rate_of, heard_after, is_kept, lost_rear, rear_taken, nominal_of, application, release, emergency, reading_of};
 
-use brake::{Brake, Choice, Heard};
+use brake::{Brake, Choice};
 use consist::Consist;
-use sample::RearPressure;
+use sample::{RearPressure, Sample};
 
 // What the rules read of a sample.
-#[derive(Clone, Copy)]
+#[derive(Clone, Copy, Debug, PartialEq, Eq)]
 pub struct Reading {
     // seconds
     pub elapsed: u32,
@@ -22,108 +22,109 @@ pub struct Reading {
 }
 
 // Seconds; 0 in a first sample.
-fn elapsed(k: Brake, time: u32) -> u32
-    ensures { result ≡ elapsed_of k time }
+#[tactic(auto, unfolding(crate::specs::Readings::elapsed_of))]
+fn elapsed(k: Brake, m: Sample) -> u32
+    ensures { result ≡ elapsed_of k m.time }
 {
-    if k.sampled & (k.last_time < time) {
-        time - k.last_time
+    if k.sampled {
+        m.time.saturating_sub(k.last_time)
     } else {
         0
     }
 }
 
 // A division by 0 seconds gives 0.
-fn rate(k: Brake, time: u32, front: u16) -> i64
-    ensures { result ≡ rate_of k time front }
+#[tactic(auto, unfolding(crate::specs::Readings::rate_of))]
+fn rate(k: Brake, m: Sample) -> i64
+    ensures { result ≡ rate_of k m.time m.front }
 {
-    let elapsed = elapsed(k, time);
-    whole::floor_div(front as i64 - k.last_front as i64, elapsed as i64)
+    let fall = m.front as i64 - k.last_front as i64;
+    whole::floor_div(fall, elapsed(k, m) as i64)
 }
 
 // When the rear was last present, from this sample on.
-pub fn heard(before: Heard, time: u32, rear: RearPressure) -> Heard
-    ensures { result ≡ heard_after before time rear }
+#[tactic(auto, unfolding(crate::specs::Readings::heard_after))]
+pub fn heard(before: Option<u32>, m: Sample) -> Option<u32>
+    ensures { result ≡ heard_after before m.time m.rear }
 {
-    match rear {
-        RearPressure::Present(_) => Heard::At(time),
+    match m.rear {
+        RearPressure::Present(_) => Some(m.time),
         RearPressure::Lost => before,
     }
 }
 
 // Whether the last present value is at most 5 seconds old.
-fn is_kept(heard: Heard, time: u32) -> bool
+#[tactic(auto, unfolding(crate::specs::Readings::is_kept))]
+fn is_kept(heard: Option<u32>, time: u32) -> bool
     ensures { result ≡ is_kept heard time }
 {
-    match heard {
-        Heard::Never => false,
-        Heard::At(at) => time as u64 <= at as u64 + 5,
-    }
+    heard.is_some_and(|at| time as u64 <= at as u64 + 5)
 }
 
-// What a lost rear counts as.
+// What a lost rear counts as. A match and no closure: a session's record holds the choice, and no record holds a function.
 #[tactic(auto, unfolding(crate::specs::Readings::lost_rear))]
-fn lost_rear(k: Brake, time: u32, front: u16) -> u16
-    ensures { result ≡ lost_rear k.choice k time front }
+fn lost_rear(k: Brake, m: Sample) -> u16
+    ensures { result ≡ lost_rear k.choice k m.time m.front }
 {
-    let choice = k.choice;
-    let heard = k.heard;
-    match choice {
-        Choice::FiveSeconds => if is_kept(heard, time) {
-            k.last_rear
-        } else {
-            front
-        },
-        Choice::Everlasting => if k.sampled { k.last_rear } else { front },
-    }
+    let kept = match k.choice {
+        Choice::FiveSeconds => is_kept(k.heard, m.time),
+        Choice::Everlasting => k.sampled,
+    };
+    if kept { k.last_rear } else { m.front }
 }
 
-fn rear_taken(k: Brake, time: u32, front: u16, rear: RearPressure) -> u16
-    ensures { result ≡ rear_taken k time front rear }
+#[tactic(auto, unfolding(crate::specs::Readings::rear_taken))]
+fn rear_taken(k: Brake, m: Sample) -> u16
+    ensures { result ≡ rear_taken k m.time m.front m.rear }
 {
-    match rear {
+    match m.rear {
         RearPressure::Present(pressure) => pressure,
-        RearPressure::Lost => lost_rear(k, time, front),
+        RearPressure::Lost => lost_rear(k, m),
     }
 }
 
 // The set pressure less half of what the pipe loses from front to rear.
+#[tactic(auto, unfolding(crate::specs::Readings::nominal_of))]
 pub fn nominal(set: u16, front: u16, rear: u16) -> u16
     ensures { result ≡ nominal_of set front rear }
 {
-    whole::above(set as u64, whole::above(front as u64, rear as u64) / 2) as u16
+    set.saturating_sub(front.saturating_sub(rear) / 2)
 }
 
+#[tactic(auto, unfolding(crate::specs::Readings::application))]
 fn is_application(rate: i64, hold: u16, front: u16) -> bool
     ensures { result ≡ application rate hold front }
 {
-    (rate < Brake::APPLICATION_RATE)
-        | (Brake::APPLICATION_DROP < whole::above(hold as u64, front as u64))
+    (rate < Brake::APPLICATION_RATE) | (Brake::APPLICATION_DROP < hold.saturating_sub(front) as u64)
 }
 
+#[tactic(auto, unfolding(crate::specs::Readings::release))]
 fn is_release(rate: i64) -> bool
     ensures { result ≡ release rate }
 {
     Brake::RELEASE_RATE < rate
 }
 
+#[tactic(auto, unfolding(crate::specs::Readings::emergency))]
 fn is_emergency(rate: i64) -> bool
     ensures { result ≡ emergency rate }
 {
     rate <= Brake::EMERGENCY_RATE
 }
 
-// What a sample brings to a brake.
-pub fn of_sample(k: Brake, c: Consist, time: u32, front: u16, rear: RearPressure) -> Reading
-    ensures { result ≡ reading_of c k time front rear }
+// What a sample brings to a brake: no rule reads its speed or its place.
+#[tactic(auto, unfolding(crate::specs::Readings::reading_of))]
+pub fn of_sample(k: Brake, c: Consist, m: Sample) -> Reading
+    ensures { result ≡ reading_of c k m.time m.front m.rear }
 {
-    let rear = rear_taken(k, time, front, rear);
-    let rate = rate(k, time, front);
+    let rear = rear_taken(k, m);
+    let rate = rate(k, m);
     Reading {
-        elapsed: elapsed(k, time),
-        front: front,
-        rear: rear,
-        nominal: nominal(c.set, front, rear),
-        application: is_application(rate, k.hold, front),
+        elapsed: elapsed(k, m),
+        front: m.front,
+        rear,
+        nominal: nominal(c.set, m.front, rear),
+        application: is_application(rate, k.hold, m.front),
         release: is_release(rate),
         emergency: is_emergency(rate),
     }

@@ -13,8 +13,7 @@ use Rattle.bits.proofs.Fields.{length-split}
 use Rattle.bits.proofs.Bytes.{length-eights, fields_of_bytes, bytes_of_fields}
 use Rattle.refusal.specs.Lowest.{Rule, lowest}
 use Rattle.refusal.specs.Written.{no_room, written}
-use Rattle.refusal.specs.declared.Verdict.{Verdict}
-use Rattle.refusal.specs.declared.Verdict.TheVariants.{Accepted}
+use Rattle.refusal.specs.Verdict.{Verdict, Accepted}
 use Rattle.refusal.proofs.Order.{passed, last_passed, accepted, append_passed, append_accepted, written_accepted}
 use Rattle.record.specs.Record as record_specs
 use Rattle.record.specs.Record.{wrong_length}

@@ -2,24 +2,21 @@
 use mathlib.Core.Path.{◌≡◌, refl, ◌∙◌}
 use mathlib.Core.Bool.{Bool, true, false, ◌&&◌, cond}
 use mathlib.Core.List.{List, [], ◌∷◌}
-use Prim.Native.Nat.{ℕ}
-use native.Mathlib.Omega.{arith}
 use lib.Dec.{T}
-use Rattle.refusal.specs.declared.Step.TheVariants.{On, Off}
-use Rattle.refusal.specs.declared.Verdict.{Verdict}
-use Rattle.refusal.specs.declared.Verdict.TheVariants.{Accepted, Refused}
+use Rattle.refusal.specs.Steps.{On, Off}
+use Rattle.refusal.specs.Verdict.{Verdict, Accepted, Refused}
 use Rattle.refusal.specs.Number.{number_of}
 use Rattle.refusal.specs.Lowest.{Rule, lowest}
 use Rattle.refusal.specs.Steps.{step_of}
 use Rattle.refusal.proofs.Order.{T-left, T-right, all_above, given, passed}
 
 pub on_unless : (b : Bool) → On ≡ step_of b → b ≡ false
-on_unless true h = absurd (let z : ◌≡◌ {A = ℕ} 0 1 = cc in omega arith)
+on_unless true h = absurd (cc)
 on_unless false h = refl
 
 pub off_unless : (b : Bool) → Off ≡ step_of b → b ≡ true
 off_unless true h = refl
-off_unless false h = absurd (let z : ◌≡◌ {A = ℕ} 0 1 = cc in omega arith)
+off_unless false h = absurd (cc)
 
 -- the first rule that is broken
 abbrev pub first_of : List Rule → Verdict

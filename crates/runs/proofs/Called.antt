@@ -24,7 +24,7 @@ use denote.Triple.Entry.{Args}
 use denote.Triple.End.{lasts_of}
 use denote.Triple.Clauses.{Ended}
 use Rattle.runs.proofs.LentAnswers.{Defined, AnswersLent}
-use Rattle.runs.proofs.LentBytes.{deads, Passings, Names, values, vals_of, befores, asides, afters, Knowns, lend, takes}
+use Rattle.runs.proofs.Passing.{deads, Passings, Names, values, vals_of, befores, asides, afters, Knowns, lend, takes}
 
 module _ (w : World) where
   open w use {𝓤, 𝓛, 𝓜}

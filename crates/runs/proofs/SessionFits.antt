@@ -1,20 +1,36 @@
--- A session that fits its words has a value, and no other; and every choice has one. Assumes nothing.
-use mathlib.Core.Path.{◌≡◌, refl, subst}
+-- A session that fits its words has a value, and no other; no other lies in memory; and every choice has a value. Assumes nothing.
+use mathlib.Core.Path.{◌≡◌, refl, ap, subst}
 use mathlib.Core.Bool.{Bool, true, false}
 use mathlib.Core.List.{List, [], ◌∷◌, map}
-use Prim.Native.Nat.{ℕ, ◌≤◌, ◌<◌, ◌^◌}
+use Prim.Native.Nat.{ℕ, zero, suc, ◌≤◌, ◌<◌, ◌^◌}
 use native.Mathlib.Omega.{arith}
-use lib.Dec.{lit<}
+use lib.Dec.{T, lit<}
+use lib.Ieee.Fits.{and_l, and_r}
 use lib.ListN.{length}
-use mir.Syntax.{Width, w8, w16, w32}
-use mir.Val.{Val, bits, vbool, vint}
+use native.Mathlib.Bridge.{le_prop}
+use base.Stored.{coded_ℕ, Coded-set}
+use mir.Syntax.{Width, w8, w16, w32, Ty, ty_int, ty_array}
+use mir.Val.{Val, bits, vbool, vint, has_ty, WT, WTs, of_list}
 use denote.Plain.{UInt, Boolean}
 use denote.Array.{Array, each, array_val}
 use denote.Shadow.{shadow}
+use denote.Builtin.{u32}
 use denote.Laws.{Is}
-use denote.Struct.Laws.{owes, owed}
+use denote.Steps.{only}
+use borrow.Fn.World.{w₀}
+use denote.Struct.Field.{u32-field}
+use denote.Struct.Laws.{u32-laws, u32-copy, owes}
+use denote.Param.Laws.{Laws, Told, of_field, field_told}
+use denote.Param.Shared.{copy_shared}
 use denote.Enum.Laws as enum
-use Rattle.bits.specs.Fields.{bit}
+use Rattle.std.specs.contracts.option.Option as option_type
+use Rattle.std.proofs.option.Option.TheLaws as option_value
+use Rattle.bits.specs.Fields.{bit, Fit}
+use Rattle.blocks.specs.declared.Blocks.{Blocks}
+use Rattle.consist.specs.declared.Consist.{Consist}
+use Rattle.consist.specs.Consist.{fields_of}
+use Rattle.brake.specs.Brake.{brake_told}
+use Rattle.learn.specs.Stage.{stage_number, learner_told}
 use Rattle.blocks.specs.Blocks.{most}
 use Rattle.blocks.specs.contracts.Blocks as blocks_type
 use Rattle.blocks.proofs.Blocks.TheLaws as blocks_value
@@ -24,14 +40,12 @@ use Rattle.brake.specs.declared.State.{State}
 use Rattle.brake.specs.declared.State.TheVariants.{Charged, ApplyingService, HoldingService, ApplyingEmergency, HoldingEmergency, Charging}
 use Rattle.brake.specs.declared.Choice.{Choice}
 use Rattle.brake.specs.declared.Choice.TheVariants.{FiveSeconds, Everlasting}
-use Rattle.brake.specs.declared.Heard.{Heard}
-use Rattle.brake.specs.declared.Heard.TheVariants.{Never, At}
+use Rattle.brake.specs.Rear.{Heard}
+use Rattle.brake.specs.Rear.{Never, At}
 use Rattle.brake.specs.State.{state_number}
 use Rattle.brake.specs.Rear.{choice_number, heard_number}
 use Rattle.brake.specs.contracts.Choice as choice_type
 use Rattle.brake.proofs.Choice.TheLaws as choice_value
-use Rattle.brake.specs.contracts.Heard as heard_type
-use Rattle.brake.proofs.Heard.TheLaws as heard_value
 use Rattle.brake.specs.contracts.State as state_type
 use Rattle.brake.proofs.State.TheLaws as state_value
 use Rattle.brake.specs.contracts.Brake as brake_type
@@ -40,7 +54,6 @@ use Rattle.trend.specs.contracts.Sums as sums_type
 use Rattle.trend.proofs.Sums.TheLaws as sums_value
 use Rattle.learn.specs.declared.Stage.{Stage}
 use Rattle.learn.specs.declared.Stage.TheVariants.{Waiting, FrontFell, Initial, Falling, Done}
-use Rattle.learn.specs.Stage.{stage_number}
 use Rattle.learn.specs.contracts.Stage as stage_type
 use Rattle.learn.proofs.Stage.TheLaws as stage_value
 use Rattle.learn.specs.contracts.Learner as learner_type
@@ -48,7 +61,7 @@ use Rattle.learn.proofs.Learner.TheLaws as learner_value
 use Rattle.session.specs.declared.Session.{Session}
 use Rattle.session.specs.contracts.Session as session_type
 use Rattle.session.proofs.Session.TheLaws as session_value
-use Rattle.demands.specs.Program.{Words, FitsWords}
+use Rattle.demands.specs.Program.{Words, FitsBlocks, FitsWords}
 
 state_is : (s : State) → Is state_type.the_row s (enum.vals state_type.the_type state_value.the_laws s)
 state_is Charged = enum.owes state_type.the_type state_value.the_laws Charged tt
@@ -88,9 +101,20 @@ bool b = refl
 abbrev end : Unit {0}
 end = tt
 
-heard_is : (heard : Heard) → heard_number heard ≤ 2 ^ 32 → Is heard_type.the_row heard (enum.vals heard_type.the_type heard_value.the_laws heard)
-heard_is Never h = enum.owes heard_type.the_type heard_value.the_laws Never tt
-heard_is (At time) h = enum.owes heard_type.the_type heard_value.the_laws (At time) (uint w32 h ⨾ end)
+-- ---- when the rear was last present, as an Option
+abbrev seconds_laws : Laws u32
+seconds_laws = of_field u32-field u32-laws refl (copy_shared u32-field u32-copy)
+
+abbrev seconds_told : Told u32
+seconds_told = field_told u32-field u32-laws
+
+abbrev pub heard_value : Heard → Val
+heard_value = option_value.lowered u32 seconds_laws seconds_told
+
+heard_is : (heard : Heard) → heard_number heard ≤ 2 ^ 32
+    → Is (option_type.the_row u32) heard (enum.vals (option_type.the_type u32) (option_value.the_laws u32 seconds_laws seconds_told) heard)
+heard_is Never h = enum.owes (option_type.the_type u32) (option_value.the_laws u32 seconds_laws seconds_told) Never tt
+heard_is (At time) h = enum.owes (option_type.the_type u32) (option_value.the_laws u32 seconds_laws seconds_told) (At time) (uint w32 h ⨾ end)
 
 -- an array's value is that of its numbers, place by place
 abbrev pub numbers : List ℕ → List Val
@@ -102,14 +126,6 @@ elements_are (n ∷ ns) f = (uint w16 f.0, elements_are ns f.1)
 
 array_is : (k : ℕ) (ns : List ℕ) → length ns ≡ k → Words 16 ns → Is (Array (UInt w16) k) ns (array_val (numbers ns) ∷ [])
 array_is k ns l f = (numbers ns, ((refl, l), elements_are ns f))
-
-elements_fit : (ns : List ℕ) (us : List Val) → shadow (each ℕ (UInt w16).own_val ns us) → Words 16 ns
-elements_fit [] us s = tt
-elements_fit (n ∷ ns) [] s = absurd s
-elements_fit (n ∷ ns) (u ∷ us) s = (s.0.1, elements_fit ns us s.1)
-
-array_fits : (k : ℕ) (ns : List ℕ) (vs : List Val) → Is (Array (UInt w16) k) ns vs → (length ns ≡ k) × Words 16 ns
-array_fits k ns vs is = (is.1.0.1, elements_fit ns is.0 is.1.1)
 
 pub session_is : (x : Session) → FitsWords x → Is session_type.the_row x (session_value.lowered x ∷ [])
 session_is x f =
@@ -153,32 +169,89 @@ choice_fits : (choice : Choice) → choice_number choice < 2 ^ 1
 choice_fits FiveSeconds = lit< tt
 choice_fits Everlasting = lit< tt
 
-heard_most : (heard : Heard) (vs : List Val) → Is heard_type.the_row heard vs → heard_number heard ≤ 2 ^ 32
-heard_most Never vs is = omega arith
-heard_most (At time) vs is = (enum.owed heard_type.the_type heard_value.the_laws (At time) vs is).0.1
+heard_most : (heard : Heard) → WT (heard_value heard) → heard_number heard ≤ 2 ^ 32
+heard_most Never w = omega arith
+heard_most (At time) w = w.1.0.fits
 
-heard_fits : (heard : Heard) (vs : List Val) → Is heard_type.the_row heard vs → heard_number heard < 2 ^ 33
-heard_fits heard vs is = omega (arith, heard_most heard vs is)
+heard_fits : (heard : Heard) → WT (heard_value heard) → heard_number heard < 2 ^ 33
+heard_fits heard w = omega (arith, heard_most heard w)
 
-pub session_fits : (x : Session) (v : Val) → Is session_type.the_row x (v ∷ []) → FitsWords x
-session_fits x v is =
-    let (_, (consist, (brake, (learner, (cause, (emergency, _)))))) = owed session_type.the_type session_value.the_laws x (v ∷ []) is in
-    let (c₀, (c₁, (c₂, (c₃, (c₄, (c₅, (c₆, (c₇, (c₈, (blocks, _)))))))))) = owed consist_type.the_type consist_value.the_laws x.consist _ consist in
-    let (n, (lengths, (weights, _))) = owed blocks_type.the_type blocks_value.the_laws x.consist.blocks _ blocks in
-    let (_, (k₁, (k₂, (k₃, (k₄, (k₅, (k₆, (k₇, (k₈, (_, (_, (heard, _)))))))))))) = owed brake_type.the_type brake_value.the_laws x.brake _ brake in
-    let (_, (l₁, (l₂, (l₃, (l₄, (sums, _)))))) = owed learner_type.the_type learner_value.the_laws x.learner _ learner in
-    let (s₀, (s₁, (s₂, (s₃, (s₄, _))))) = owed sums_type.the_type sums_value.the_laws x.learner.sums _ sums in (
-      c₀.1 ⨾ c₁.1 ⨾ c₂.1 ⨾ c₃.1 ⨾ c₄.1 ⨾ c₅.1 ⨾ c₆.1 ⨾ c₇.1 ⨾ c₈.1 ⨾ tt,
-      state_fits x.brake.state ⨾ k₁.1 ⨾ k₂.1 ⨾ k₃.1 ⨾ k₄.1 ⨾ k₅.1 ⨾ k₆.1 ⨾ k₇.1 ⨾ k₈.1 ⨾ bit_fits x.brake.sampled ⨾ choice_fits x.brake.choice ⨾ heard_fits x.brake.heard _ heard ⨾ tt,
-      heard_most x.brake.heard _ heard,
-      stage_fits x.learner.stage ⨾ l₁.1 ⨾ l₂.1 ⨾ l₃.1 ⨾ l₄.1 ⨾ s₀.1 ⨾ s₁.1 ⨾ s₂.1 ⨾ s₃.1 ⨾ s₄.1 ⨾ tt,
-      cause.1,
-      emergency.1,
+words_fit : (ns : List ℕ) → WTs (of_list (numbers ns)) → Words 16 ns
+words_fit [] w = tt
+words_fit (n ∷ ns) w = (w.0.fits, words_fit ns w.1)
+
+places : (τ : Ty) (k : ℕ) (ns : List ℕ) → T (has_ty (ty_array τ k) (array_val (numbers ns))) → length ns ≡ k
+places τ zero [] h = refl
+places τ zero (n ∷ ns) h = absurd h
+places τ (suc k) [] h = absurd h
+places τ (suc k) (n ∷ ns) h = ap suc (places τ k ns (and_r (has_ty τ (vint w16 n)) _ h))
+
+consist_places : (c : Consist) → T (has_ty consist_value.mir (consist_value.lowered c)) → (length c.blocks.lengths ≡ most) × (length c.blocks.weights ≡ most)
+consist_places c h =
+    let b = c.blocks in
+    let arrays : T (has_ty blocks_value.mir (blocks_value.lowered b)) = and_l _ true h in
+    (places (ty_int w16) most b.lengths (and_l _ _ arrays), places (ty_int w16) most b.weights (and_l _ true (and_r _ _ arrays)))
+
+-- what lies in memory fits its words
+pub typed_fits : (x : Session) → T (has_ty session_value.mir (session_value.lowered x)) → WT (session_value.lowered x) → FitsWords x
+typed_fits x h w =
+    let (_, (consist, (brake, (learner, (cause, (emergency, _)))))) = w in
+    let (c₀, (c₁, (c₂, (c₃, (c₄, (c₅, (c₆, (c₇, (c₈, (blocks, _)))))))))) = consist in
+    let (n, (lengths, (weights, _))) = blocks in
+    let (_, (k₁, (k₂, (k₃, (k₄, (k₅, (k₆, (k₇, (k₈, (_, (_, (heard, _)))))))))))) = brake in
+    let (_, (l₁, (l₂, (l₃, (l₄, (sums, _)))))) = learner in
+    let (s₀, (s₁, (s₂, (s₃, (s₄, _))))) = sums in
+    let b = x.consist.blocks in
+    let held = consist_places x.consist (and_l (has_ty consist_value.mir (consist_value.lowered x.consist)) _ h) in (
+      c₀.fits ⨾ c₁.fits ⨾ c₂.fits ⨾ c₃.fits ⨾ c₄.fits ⨾ c₅.fits ⨾ c₆.fits ⨾ c₇.fits ⨾ c₈.fits ⨾ tt,
+      state_fits x.brake.state ⨾ k₁.fits ⨾ k₂.fits ⨾ k₃.fits ⨾ k₄.fits ⨾ k₅.fits ⨾ k₆.fits ⨾ k₇.fits ⨾ k₈.fits ⨾ bit_fits x.brake.sampled ⨾ choice_fits x.brake.choice ⨾ heard_fits x.brake.heard heard ⨾ tt,
+      heard_most x.brake.heard heard,
+      stage_fits x.learner.stage ⨾ l₁.fits ⨾ l₂.fits ⨾ l₃.fits ⨾ l₄.fits ⨾ s₀.fits ⨾ s₁.fits ⨾ s₂.fits ⨾ s₃.fits ⨾ s₄.fits ⨾ tt,
+      cause.fits,
+      emergency.fits,
       record {
-        count = n.1;
-        lengths_places = (array_fits most x.consist.blocks.lengths _ lengths).0;
-        lengths = (array_fits most x.consist.blocks.lengths _ lengths).1;
-        weights_places = (array_fits most x.consist.blocks.weights _ weights).0;
-        weights = (array_fits most x.consist.blocks.weights _ weights).1;
+        count = n.fits;
+        lengths_places = held.0;
+        lengths = words_fit b.lengths lengths;
+        weights_places = held.1;
+        weights = words_fit b.weights weights;
       },
     )
+
+-- so does what has a value
+pub session_fits : (x : Session) (v : Val) → Is session_type.the_row x (v ∷ []) → FitsWords x
+session_fits x v is =
+    let typed = ((session_value.the_row_laws).lawful w₀.𝓛).typed x (v ∷ []) is in
+    let one : v ≡ session_value.lowered x = ap only ((session_value.lowers).val_is x (v ∷ []) is) in
+    typed_fits x (subst (λ (u : Val). T (has_ty session_value.mir u)) one typed.0.0) (subst WT one typed.0.1)
+
+-- ---- and in one way
+fit_one : (ws ns : List ℕ) → IsProp (Fit ws ns)
+fit_one [] [] = λ f g i. tt
+fit_one [] (n ∷ ns) = λ f g. absurd f
+fit_one (w ∷ ws) [] = λ f g. absurd f
+fit_one (w ∷ ws) (n ∷ ns) = λ f g i. (le_prop f.0 g.0 i, fit_one ws ns f.1 g.1 i)
+
+words_one : (w : ℕ) (ns : List ℕ) → IsProp (Words w ns)
+words_one w [] = λ f g i. tt
+words_one w (n ∷ ns) = λ f g i. (le_prop f.0 g.0 i, words_one w ns f.1 g.1 i)
+
+blocks_one : (b : Blocks) → IsProp (FitsBlocks b)
+blocks_one b = λ f g i. record {
+  count = le_prop f.count g.count i;
+  lengths_places = Coded-set coded_ℕ (length b.lengths) most f.lengths_places g.lengths_places i;
+  lengths = words_one 16 b.lengths f.lengths g.lengths i;
+  weights_places = Coded-set coded_ℕ (length b.weights) most f.weights_places g.weights_places i;
+  weights = words_one 16 b.weights f.weights g.weights i;
+}
+
+pub fits_one : (x : Session) → IsProp (FitsWords x)
+fits_one x = λ f g i. (
+  fit_one (16 ∷ 16 ∷ 16 ∷ 16 ∷ 32 ∷ 32 ∷ 16 ∷ 16 ∷ 16 ∷ []) (fields_of x.consist) f.0 g.0 i,
+  fit_one (8 ∷ 16 ∷ 16 ∷ 16 ∷ 16 ∷ 16 ∷ 16 ∷ 16 ∷ 32 ∷ 1 ∷ 1 ∷ 33 ∷ []) (brake_told x.brake) f.1 g.1 i,
+  le_prop f.2 g.2 i,
+  fit_one (8 ∷ 32 ∷ 16 ∷ 16 ∷ 16 ∷ 16 ∷ 32 ∷ 32 ∷ 32 ∷ 32 ∷ []) (learner_told x.learner) f.3 g.3 i,
+  le_prop f.4 g.4 i,
+  le_prop f.5 g.5 i,
+  blocks_one x.consist.blocks f.6 g.6 i,
+)

@@ -1,5 +1,5 @@
--- What a session's value and an answer's are to the machine, read back. Assumes nothing.
-use mathlib.Core.Path.{◌≡◌, refl, sym, ◌∙◌, ap, ap₂}
+-- What a session's value and a verdict's are to the machine, read back. Assumes nothing.
+use mathlib.Core.Path.{◌≡◌, refl, ◌∙◌, ap, ap₂}
 use mathlib.Core.Bool.{Bool, false}
 use mathlib.Core.List.{List, [], ◌∷◌}
 use Prim.Native.Nat.{ℕ, zero, suc}
@@ -7,37 +7,43 @@ use lib.ListN.{get_or}
 use mir.Val.{Val, Vals, vnil, vcons, vunit, vbool, vint, vfloat, vptr, vcode, vstruct, as_int, as_bool}
 use mir.Fields.{get_v}
 use denote.Array.{array_val}
+use denote.Laws.{Is, Tells}
+use denote.Struct.Field.{unit-field}
+use denote.Struct.Laws.{unit-laws, unit-copy}
+use denote.Param.Laws.{Laws, Told, of_field, field_told}
+use denote.Param.Shared.{copy_shared}
+use denote.Builtin.{unit}
+use Rattle.std.proofs.result.Result.TheLaws as laws
 use Rattle.bits.specs.Fields.{bit}
 use Rattle.refusal.specs.declared.Refusal.{Refusal}
 use Rattle.refusal.specs.declared.Refusal.TheVariants.{NoSession, WrongLength, WrongMark, OutOfRange, TooLight, BrokenProfile, BrokenTargets, BadReading, WrongTime, NotCovered, NoRoom, BrokenBlocks}
-use Rattle.refusal.specs.declared.Verdict.{Verdict}
-use Rattle.refusal.specs.declared.Verdict.TheVariants.{Accepted, Refused}
+use Rattle.refusal.specs.Verdict.{Verdict, Accepted, Refused}
 use Rattle.refusal.specs.Number.{number_of, number_of_verdict}
+use Rattle.refusal.specs.contracts.Refusal as refusal_type
 use Rattle.refusal.proofs.Refusal.TheLaws as refusal_value
-use Rattle.refusal.proofs.Verdict.TheLaws as verdict_value
 use Rattle.consist.specs.declared.Consist.{Consist}
 use Rattle.brake.specs.declared.State.{State}
 use Rattle.brake.specs.declared.State.TheVariants.{Charged, ApplyingService, HoldingService, ApplyingEmergency, HoldingEmergency, Charging}
 use Rattle.brake.specs.declared.Choice.{Choice}
 use Rattle.brake.specs.declared.Choice.TheVariants.{FiveSeconds, Everlasting}
-use Rattle.brake.specs.declared.Heard.{Heard}
-use Rattle.brake.specs.declared.Heard.TheVariants.{Never, At}
+use Rattle.brake.specs.Rear.{Heard}
+use Rattle.brake.specs.Rear.{Never, At}
 use Rattle.brake.specs.State.{state_number}
 use Rattle.brake.specs.Rear.{choice_number, heard_number}
 use Rattle.brake.proofs.Choice.TheLaws as choice_value
-use Rattle.brake.proofs.Heard.TheLaws as heard_value
 use Rattle.brake.proofs.State.TheLaws as state_value
 use Rattle.learn.specs.declared.Stage.{Stage}
 use Rattle.learn.specs.declared.Stage.TheVariants.{Waiting, FrontFell, Initial, Falling, Done}
 use Rattle.learn.specs.Stage.{stage_number}
 use Rattle.learn.proofs.Stage.TheLaws as stage_value
 use Rattle.session.specs.declared.Session.{Session}
-use Rattle.session.specs.declared.Answer.{Answer}
-use Rattle.session.specs.Session.{Told, session_told, answer_told}
+use Rattle.session.specs.Session as session
+use Rattle.session.specs.Session.{session_told, answer, answer_told}
 use Rattle.session.proofs.Session.TheLaws as session_value
-use Rattle.session.proofs.Answer.TheLaws as answer_value
 use Rattle.demands.specs.Demand1.{table_numbers}
-use Rattle.runs.proofs.SessionFits.{numbers}
+use Rattle.runs.specs.Runs.{verdict_row}
+use Rattle.runs.specs.CodeMeets.{verdict_value}
+use Rattle.runs.proofs.SessionFits.{numbers, heard_value}
 
 unfoldable pub number : Val → ℕ
 number v = as_int zero v (λ _ n. n)
@@ -92,7 +98,7 @@ heard_in v = at (number (part v 0)) (number (part v 1))
     at zero n = zero
     at (suc k) n = suc n
 
-pub session_in : Val → Told
+pub session_in : Val → session.Told
 session_in v =
     let c : ℕ → ℕ = λ i. number (part (part v 1) i) in
     let b : Val = part (part v 1) 9 in
@@ -139,7 +145,7 @@ session_read x =
     let k = x.brake in
     let l = x.learner in
     let s = l.sums in
-    let told : ℕ → ℕ → ℕ → ℕ → List ℕ → List ℕ → Told = λ n c h g ls ws. (
+    let told : ℕ → ℕ → ℕ → ℕ → List ℕ → List ℕ → session.Told = λ n c h g ls ws. (
       x.opened,
       with_lists x.consist ls ws,
       n ∷ k.hold ∷ k.a ∷ k.b ∷ k.equalization ∷ k.fall ∷ k.last_front ∷ k.last_rear ∷ k.last_time ∷ bit k.sampled ∷ c ∷ h ∷ [],
@@ -168,11 +174,11 @@ session_read x =
     choice_read FiveSeconds = refl
     choice_read Everlasting = refl
 
-    heard_read : (heard : Heard) → heard_in (heard_value.lowered heard) ≡ heard_number heard
+    heard_read : (heard : Heard) → heard_in (heard_value heard) ≡ heard_number heard
     heard_read Never = refl
     heard_read (At time) = refl
 
-verdict_read : (v : Verdict) → verdict_in (verdict_value.lowered v) ≡ number_of_verdict v
+verdict_read : (v : Verdict) → verdict_in (verdict_value v) ≡ number_of_verdict v
 unfolding part number number_at verdict_in
 verdict_read Accepted = refl
 verdict_read (Refused r) = refusal_read r
@@ -191,12 +197,27 @@ verdict_read (Refused r) = refusal_read r
     refusal_read NoRoom = refl
     refusal_read BrokenBlocks = refl
 
-answer_in : Val → ℕ × Told
-answer_in v = (verdict_in (part v 1), session_in (part v 0))
+-- a verdict has this value, and no other
+pub verdict_is : Tells verdict_row (Is verdict_row) (λ v. verdict_value v ∷ [])
+verdict_is v us is = (laws.lowers unit refusal_type.the_row unit_law refusal_value.the_row_laws unit_told refusal_told).val_is v us is ∙ ap (λ (u : Val). u ∷ []) (same v)
+  where
+    unit_law : Laws unit
+    unit_law = of_field unit-field unit-laws refl (copy_shared unit-field unit-copy)
 
-answer_read : (a : Answer) → answer_in (answer_value.lowered a) ≡ answer_told a
+    unit_told : Told unit
+    unit_told = field_told unit-field unit-laws
+
+    refusal_told : Told refusal_type.the_row
+    refusal_told = record { val = refusal_value.lowered; tells = (refusal_value.lowers).val_is }
+
+    same : (v : Verdict) → laws.lowered unit refusal_type.the_row unit_law refusal_value.the_row_laws unit_told refusal_told v ≡ verdict_value v
+    same Accepted = refl
+    same (Refused r) = refl
+
+-- what is told of an answer, of its two values
+pub answer_in : Val × Val → ℕ × session.Told
+answer_in k = (verdict_in k.0, session_in k.1)
+
+pub answer_read : (v : Verdict) (x : Session) → answer_in (verdict_value v, session_value.lowered x) ≡ answer_told (answer x v)
 unfolding part answer_in
-answer_read a = ap₂ (λ (n : ℕ) (t : Told). (n, t)) (verdict_read a.verdict) (session_read a.session)
-
-pub answer_told_lem : (a b : Answer) → answer_value.lowered a ≡ answer_value.lowered b → answer_told a ≡ answer_told b
-answer_told_lem a b e = sym (answer_read a) ∙ ap answer_in e ∙ answer_read b
+answer_read v x = ap₂ (λ (n : ℕ) (t : session.Told). (n, t)) (verdict_read v) (session_read x)

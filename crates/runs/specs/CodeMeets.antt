@@ -1,26 +1,25 @@
 -- The code's own answers are a machine's, and it meets the contracts. Statements; proofs/CodeMeets.antt proves them.
 -- The calls are run from the memory with which a run begins, in any environment that has their code, and nothing of the logic is left.
-use Rattle.std.specs.Prelude.{◌≡◌, List, [], ◌∷◌, ◌++◌, map, ℕ, ◌+◌, ◌^◌, ◌<◌, length}
+use Rattle.std.specs.Prelude.{◌≡◌, true, List, [], ◌∷◌, ◌++◌, map, ℕ, ◌+◌, ◌^◌, ◌<◌, length}
 use Rattle.std.proofs.Math.Option.{some}
-use mir.Syntax.{Symbol, w8, w32, ty_int}
-use mir.Val.{Val, vint}
-use prog.Memory.{Memory, load_m}
+use mir.Syntax.{Ty, Symbol, w8, w32, ty_int}
+use mir.Val.{Val, vnil, vcons, vunit, vint, vstruct}
+use prog.Memory.{Memory, align, enc, load_m, store_m, alloc_m}
 use prog.Machine.{done}
 use prog.Routine.{Routine, Env, step}
 use prog.Wired.{Wired}
 use prog.Linked.{Entry, Has, Follows}
 use prog.AdequacyRun.{start_mem}
-use Rattle.refusal.specs.declared.Verdict.{Verdict}
+use Rattle.refusal.specs.Verdict.{Verdict, Accepted, Refused}
+use Rattle.refusal.proofs.Refusal.TheLaws as refusal_value
 use Rattle.brake.specs.declared.Choice.{Choice}
 use Rattle.brake.specs.declared.Choice.TheVariants.{FiveSeconds}
 use Rattle.brake.specs.Rear.{choice_of}
 use Rattle.brake.proofs.Choice.TheLaws as choice_value
 use Rattle.session.specs.declared.Session.{Session}
-use Rattle.session.specs.declared.Answer.{Answer}
 use Rattle.session.specs.Session.{none_open}
 use Rattle.sampling.specs.Laws.{Lent}
 use Rattle.session.proofs.Session.TheLaws as session_value
-use Rattle.session.proofs.Answer.TheLaws as answer_value
 use Rattle.session.proofs.none.Symbol as session_none
 use Rattle.session.proofs.open.Symbol as session_open
 use Rattle.sampling.proofs.sample.Symbol as session_sample
@@ -28,12 +27,12 @@ use Rattle.lent.specs.Lent.{Sampled}
 use Rattle.buongilach.proofs.buongilach_open.Symbol as buongilach_open
 use Rattle.buongilach.proofs.buongilach_open_with.Symbol as buongilach_open_with
 use Rattle.buongilach.proofs.buongilach_sample.Symbol as buongilach_sample
-use Rattle.demands.specs.Machine.{Slice, Lends, sampling, Machine, Unopened}
+use Rattle.demands.specs.Machine.{Slice, Lends, sampling, Machine, Reply, Unopened}
 use Rattle.demands.specs.Library.{in_bytes, our_library}
 use Rattle.demands.specs.Library as library
 use Rattle.demands.specs.Program.{FitsWords, our_program}
 use Rattle.demands.specs.Program as program
-use Rattle.runs.specs.Runs.{Buffer, size, passed}
+use Rattle.runs.specs.Runs.{Buffer, size, passed, Place, pointer}
 
 -- ---- what a call leaves in memory
 
@@ -49,9 +48,18 @@ Hold σ [] (c ∷ cs) = ⊥
 Hold σ (b ∷ bs) [] = ⊥
 Hold σ (b ∷ bs) (c ∷ cs) = (length c ≡ size b) × Loads σ b.block b.offset c × Hold σ bs cs
 
--- called on values, buffers and values behind them, the code ends, returns the answer's value, and leaves these bytes in the buffers
-abbrev pub Gives : Routine → Memory → List Val → List Buffer → List Val → Val → List (List ℕ) → Type 0
-Gives code σ vs bs us answer left = ∥ ((n : ℕ) × (σ' : Memory) × (step code n (vs ++ (map passed bs ++ us)) σ ≡ done (answer, σ')) × Hold σ' bs left) ∥₁
+-- the machine loads these sessions from the places
+abbrev pub Stand : Memory → List Place → List Session → Type 0
+Stand σ [] [] = Unit {0}
+Stand σ [] (y ∷ ys) = ⊥
+Stand σ (p ∷ ps) [] = ⊥
+Stand σ (p ∷ ps) (y ∷ ys) = (load_m σ session_value.mir p.block p.offset ≡ some (session_value.lowered y)) × Stand σ ps ys
+
+-- called on sessions, buffers and values behind them, the code ends, returns the answer's value, and leaves these sessions in the places and these bytes in the
+-- buffers
+abbrev pub Gives : Routine → Memory → List Place → List Buffer → List Val → Val → List Session → List (List ℕ) → Type 0
+Gives code σ ps bs us answer sessions left =
+    ∥ ((n : ℕ) × (σ' : Memory) × (step code n (map pointer ps ++ (map passed bs ++ us)) σ ≡ done (answer, σ')) × Stand σ' ps sessions × Hold σ' bs left) ∥₁
 
 -- a buffer at the front of a block, and one that begins where another ends
 abbrev pub front : ℕ → List ℕ → Buffer
@@ -71,12 +79,12 @@ pub record HasLibrary (γ : Env) : Type 0 where
 module _ (γ : Env) where
   abbrev pub OpenGives : (session consist : List ℕ) → ℕ × List ℕ → Type 0
   OpenGives session consist y =
-      Gives (γ buongilach_open.name) (start_mem session consist) [] (front 0 session ∷ front 1 consist ∷ []) [] (vint w8 y.0) (y.1 ∷ consist ∷ [])
+      Gives (γ buongilach_open.name) (start_mem session consist) [] (front 0 session ∷ front 1 consist ∷ []) [] (vint w8 y.0) [] (y.1 ∷ consist ∷ [])
 
   abbrev pub OpenWithGives : (session consist : List ℕ) → ℕ → ℕ × List ℕ → Type 0
   OpenWithGives session consist everlasting y =
       Gives (γ buongilach_open_with.name) (start_mem session consist) [] (front 0 session ∷ front 1 consist ∷ []) (vint w32 everlasting ∷ []) (vint w8 y.0)
-      (y.1 ∷ consist ∷ [])
+      [] (y.1 ∷ consist ∷ [])
 
   abbrev pub SampleGives : List ℕ → Lent → Sampled → Type 0
   SampleGives session l y =
@@ -84,7 +92,7 @@ module _ (γ : Env) where
       let p = after s l.profile in
       let t = after p l.targets in
       Gives (γ buongilach_sample.name) (start_mem session (l.sample ++ (l.profile ++ (l.targets ++ l.out)))) []
-      (front 0 session ∷ s ∷ p ∷ t ∷ after t l.out ∷ []) [] (vint w8 y.0) (y.1 ∷ l.sample ∷ l.profile ∷ l.targets ∷ y.2 ∷ [])
+      (front 0 session ∷ s ∷ p ∷ t ∷ after t l.out ∷ []) [] (vint w8 y.0) [] (y.1 ∷ l.sample ∷ l.profile ∷ l.targets ∷ y.2 ∷ [])
 
   -- whatever fits its words, the code gives what the machine does
   pub record IsLibrary (m : Machine (List ℕ) ℕ) : Type 0 where
@@ -95,7 +103,22 @@ module _ (γ : Env) where
         let r = m.samples session l in
         SampleGives session l (r.told, r.state, r.out)
 
--- ---- the Rattle program: sessions and answers are passed by value, the output's bytes lie in one block, and in the other what else is lent
+-- ---- the Rattle program: the output's bytes lie in one block, in another what else is lent, and in a third the session
+
+-- behind a memory's blocks, one more for a value, whose cells it has, and which may be written over
+abbrev pub beside : Memory → Ty → Val → Memory
+beside σ τ v = σ ++ (some (align τ, enc τ v, true) ∷ [])
+
+abbrev pub program_mem : (bytes others : List ℕ) → Session → Memory
+program_mem bytes others x = beside (start_mem bytes others) session_value.mir (session_value.lowered x)
+
+abbrev pub third : Session → Place
+third x = record { block = 2; offset = 0; session = x }
+
+-- a verdict's value: which of a Result's two variants it is, and what that one carries
+abbrev pub verdict_value : Verdict → Val
+verdict_value Accepted = vstruct (vcons (vint w8 0) (vcons vunit vnil))
+verdict_value (Refused r) = vstruct (vcons (vint w8 1) (vcons (refusal_value.lowered r) vnil))
 
 pub record HasProgram (γ : Env) : Type 0 where
   pub none : Wired γ session_none.code
@@ -103,22 +126,21 @@ pub record HasProgram (γ : Env) : Type 0 where
   pub samples : Wired γ session_sample.code
 
 module _ (γ : Env) where
-  abbrev pub CallGives : Session → Lent → Answer → List ℕ → Type 0
-  CallGives x l answer out =
+  abbrev pub OpeningGives : Session → List ℕ → Choice → Verdict × Session → Type 0
+  OpeningGives x s choice y =
+      Gives (γ session_open.name) (program_mem s [] x) (third x ∷ []) (front 0 s ∷ []) (choice_value.lowered choice ∷ []) (verdict_value y.0) (y.1 ∷ []) (s ∷ [])
+
+  abbrev pub CallGives : Session → Lent → Reply Session Verdict → Type 0
+  CallGives x l y =
       let s = front 1 l.sample in
       let p = after s l.profile in
-      Gives (γ session_sample.name) (start_mem l.out (l.sample ++ (l.profile ++ l.targets))) (session_value.lowered x ∷ [])
-      (s ∷ p ∷ after p l.targets ∷ front 0 l.out ∷ []) [] (answer_value.lowered answer) (l.sample ∷ l.profile ∷ l.targets ∷ out ∷ [])
+      Gives (γ session_sample.name) (program_mem l.out (l.sample ++ (l.profile ++ l.targets)) x) (third x ∷ [])
+      (s ∷ p ∷ after p l.targets ∷ front 0 l.out ∷ []) [] (verdict_value y.told) (y.state ∷ []) (l.sample ∷ l.profile ∷ l.targets ∷ y.out ∷ [])
 
   pub record IsProgram (m : Machine Session Verdict) : Type 0 where
-    pub none : Gives (γ session_none.name) (start_mem [] []) [] [] [] (session_value.lowered m.none) []
-    pub opens : (x : Session) (s : List ℕ) (choice : Choice) → FitsWords x → Slice s →
-        let r = m.opens x s choice in
-        Gives (γ session_open.name) (start_mem s []) (session_value.lowered x ∷ []) (front 0 s ∷ []) (choice_value.lowered choice ∷ [])
-        (answer_value.lowered (record { session = r.1; verdict = r.0 })) (s ∷ [])
-    pub samples : (x : Session) (l : Lent) → FitsWords x → Lends (sampling l) →
-        let r = m.samples x l in
-        CallGives x l (record { session = r.state; verdict = r.told }) r.out
+    pub none : Gives (γ session_none.name) (start_mem [] []) [] [] [] (session_value.lowered m.none) [] []
+    pub opens : (x : Session) (s : List ℕ) (choice : Choice) → FitsWords x → Slice s → OpeningGives x s choice (m.opens x s choice)
+    pub samples : (x : Session) (l : Lent) → FitsWords x → Lends (sampling l) → CallGives x l (m.samples x l)
 
 -- ---- there is such a machine, and each meets the contracts
 pub record CodeMeets : Type 0 where
@@ -128,6 +150,9 @@ pub record CodeMeets : Type 0 where
       → Has look buongilach_sample.code → HasLibrary γ
   pub program_linked : (look : Symbol → Entry) (γ : Env) → Follows look γ → Has look session_none.code → Has look session_open.code
       → Has look session_sample.code → HasProgram γ
+  -- the memory that a program's call is run from is what a new block and a store of the session make of the one with which a run begins
+  pub stored : (bytes others : List ℕ) (x : Session) → FitsWords x
+      → store_m (alloc_m (start_mem bytes others) session_value.mir) session_value.mir 2 0 (session_value.lowered x) ≡ some (program_mem bytes others x)
   -- and wherever that code is
   pub is_library : (γ : Env) → HasLibrary γ → (z : List ℕ) → IsLibrary γ (our_library z)
   pub library_meets : (γ : Env) → HasLibrary γ → (m : Machine (List ℕ) ℕ) → Unopened in_bytes m.none → IsLibrary γ m → library.Meets m

@@ -1,6 +1,7 @@
--- Laying out, judging, reading and writing try their rules in order; what the conditions and the answers tell. Assumes nothing.
+-- Laying out, judging, reading and writing try their rules in order; what the conditions and the answers tell. No function's answer: lemmas that several answers cite. Assumes nothing.
 use mathlib.Core.Path.{◌≡◌, refl, sym, ap, ◌∙◌}
 use Prim.Native.Nat.{ℕ, ◌^◌, ◌<◌}
+use native.Mathlib.Omega.{arith}
 use mathlib.Core.Bool.{Bool, true, false, ◌||◌}
 use mathlib.Core.List.{List, [], ◌∷◌}
 use lib.ListN.{length}
@@ -8,29 +9,36 @@ use lib.Dec.{leb, eqb, lit<}
 use borrow.Author.Tests.{eqb-true, leb-false, lt-leb, not-false}
 use Rattle.bits.specs.Fields.{Fit}
 use Rattle.bits.specs.Bytes.{num, fields_in}
+use Rattle.bits.specs.Places.{fields_from}
 use Rattle.bits.proofs.Fields.{split_fit}
+use Rattle.bits.proofs.Places.{fields_from_lem}
 use Rattle.bits.proofs.Ranges.{neither}
-use Rattle.hundredths.specs.Reading.{is_bad, most_speed, most_psi}
+use Rattle.hundredths.specs.declared.Rounding.TheVariants.{Up, Down}
+use Rattle.sample.specs.declared.RearPressure.{RearPressure}
+use Rattle.hundredths.specs.Reading.{hundredths_of, is_bad, most_speed, most_psi}
 use Rattle.record.specs.Record.{wrong_length}
 use Rattle.refusal.specs.Lowest.{lowest}
 use Rattle.refusal.specs.Written.{no_room, written}
 use Rattle.refusal.specs.declared.Refusal.{Refusal}
 use Rattle.refusal.specs.declared.Refusal.TheVariants.{WrongLength, WrongMark, OutOfRange, BadReading, NoRoom}
-use Rattle.refusal.specs.declared.Verdict.{Verdict}
-use Rattle.refusal.specs.declared.Verdict.TheVariants.{Accepted, Refused}
+use Rattle.refusal.specs.Verdict.{Verdict, Accepted, Refused}
 use Rattle.refusal.proofs.Order.{accepted, append_given, append_passed}
 use Rattle.refusal.proofs.Steps.{first_of, in_order}
 use Rattle.sample.specs.declared.Rear.{Rear}
 use Rattle.sample.specs.declared.Rear.TheVariants.{Present, Lost}
 use Rattle.sample.specs.declared.RawSample.{RawSample}
 use Rattle.sample.specs.declared.Sample.{Sample}
-use Rattle.sample.specs.Sample.{size, widths, reading_widths, present_bit, fields_of, readings_of, raw_in, bytes_of, wrong_mark, too_wide, bad_rear, bad_reading, answer, layout_rules, lay_out, sample_of, judge_rules, judgement, judge_sample, read_rules, read_sample, write_rules, write_sample}
+use Rattle.sample.specs.Sample.{size, widths, reading_widths, present_bit, fields_of, readings_of, raw_in, bytes_of, wrong_mark, too_wide, bad_rear, bad_reading, rear_in_hundredths, answer, layout_rules, lay_out, sample_of, judge_rules, judgement, judge_sample, read_rules, read_sample, write_rules, write_sample}
 
 -- ---- conditions
 
 pub right_length : (s : List ℕ) → wrong_length size s ≡ false → length s ≡ size
 unfolding wrong_length
 right_length s h = eqb-true (length s) size (not-false (eqb (length s) size) h)
+
+-- past the length: the fields that are read are those of the record
+pub fields_read : (s : List ℕ) → wrong_length size s ≡ false → fields_from 0 widths s ≡ fields_in widths s
+fields_read s h = fields_from_lem 0 widths s tt (omega (arith, right_length s h))
 
 -- what is not too wide fits its 24 bits
 pub narrow : (raw : RawSample) → too_wide raw ≡ false → (raw.time < 2 ^ 24) × (raw.head < 2 ^ 24)
@@ -140,3 +148,11 @@ module _ (raw : RawSample) where
       go : (b : Bool) → lowest ((b, BadReading) ∷ []) ≡ Refused r → (b ≡ true) × (r ≡ BadReading)
       go true e = (refl, cc)
       go false e = (cc, cc)
+
+-- readings that are good, in hundredths
+pub judged_good : (raw : RawSample) (s f : ℕ) (p : RearPressure) → (is_bad most_speed raw.speed ≡ false) × (s ≡ hundredths_of Up raw.speed)
+    → (is_bad most_psi raw.front ≡ false) × (f ≡ hundredths_of Down raw.front) → bad_rear raw.rear ≡ false → p ≡ rear_in_hundredths raw.rear
+    → (Accepted, record { time = raw.time; head = raw.head; speed = s; front = f; rear = p }) ≡ judge_sample raw
+unfolding bad_reading
+judged_good raw s f p a b r e =
+    (λ i. (Accepted, record { time = raw.time; head = raw.head; speed = a.1 i; front = b.1 i; rear = e i })) ∙ sym (judge_is raw false (simp (a.0, b.0, r)))

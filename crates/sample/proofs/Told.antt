@@ -2,18 +2,18 @@
 use mathlib.Core.Path.{◌≡◌, refl, sym, ap, ap₂, ◌∙◌}
 use mathlib.Core.List.{List}
 use Prim.Native.Nat.{ℕ}
-use Rattle.refusal.specs.Number.{told}
-use Rattle.refusal.specs.declared.Verdict.{Verdict}
+use Rattle.std.specs.Prelude.{Result}
+use Rattle.refusal.specs.declared.Refusal.{Refusal}
+use Rattle.refusal.specs.Number.{told, answer_of}
+use Rattle.refusal.specs.Verdict.{Verdict}
 use Rattle.refusal.proofs.Numbers.{told_one}
 use Rattle.sample.specs.declared.Rear.{Rear}
 use Rattle.sample.specs.declared.Rear.TheVariants.{Present, Lost}
 use Rattle.sample.specs.declared.RawSample.{RawSample}
 use Rattle.sample.specs.declared.RearPressure.{RearPressure}
 use Rattle.sample.specs.declared.RearPressure.TheVariants as pressure
-use Rattle.sample.specs.declared.Answer.{Answer}
 use Rattle.sample.specs.declared.Sample.{Sample}
-use Rattle.sample.specs.declared.Judged.{Judged}
-use Rattle.sample.specs.Sample.{rear_told, raw_told, answer_told, pressure_told, sample_told, judged_told}
+use Rattle.sample.specs.Sample.{none, no_sample, rear_told, raw_told, answer_told, pressure_told, sample_told, judged_told}
 
 -- present and lost differ in their values
 value : {A : Type 0} {x y : ℕ × List A} → x ≡ y → x.1 ≡ y.1
@@ -51,8 +51,8 @@ pub judged_one : (x y : Verdict × Sample) → judged_told x ≡ judged_told y �
 judged_one = both_one sample_told sample_one
 
 -- what a caller knows of the definition when it has taken the verdict apart
-pub answer_is : (x : Verdict × RawSample) (a : Answer) (v : Verdict) → answer_told (a.verdict, a.raw) ≡ answer_told x → a.verdict ≡ v → x ≡ (v, a.raw)
-answer_is x a v e h = sym (answer_one _ x e) ∙ ap (λ (w : Verdict). (w, a.raw)) h
+pub answer_is : (x : Verdict × RawSample) (a b : Result RawSample Refusal) → answer_told (answer_of none a) ≡ answer_told x → a ≡ b → x ≡ answer_of none b
+answer_is x a b e h = sym (answer_one _ x e) ∙ ap (answer_of none) h
 
-pub judged_is : (x : Verdict × Sample) (j : Judged) (v : Verdict) → judged_told (j.verdict, j.sample) ≡ judged_told x → j.verdict ≡ v → x ≡ (v, j.sample)
-judged_is x j v e h = sym (judged_one _ x e) ∙ ap (λ (w : Verdict). (w, j.sample)) h
+pub judged_is : (x : Verdict × Sample) (j k : Result Sample Refusal) → judged_told (answer_of no_sample j) ≡ judged_told x → j ≡ k → x ≡ answer_of no_sample k
+judged_is x j k e h = sym (judged_one _ x e) ∙ ap (answer_of no_sample) h

@@ -1,7 +1,7 @@
 -- What a judged sample holds, for its callers. A statement; proofs/Bounds.antt proves it.
 use Rattle.std.specs.Prelude.{◌≡◌, List, ℕ, ◌*◌, ◌^◌, ◌≤◌, ◌<◌}
 use Rattle.hundredths.specs.Reading.{most_speed, most_psi}
-use Rattle.refusal.specs.declared.Verdict.TheVariants.{Accepted}
+use Rattle.refusal.specs.Verdict.{Accepted}
 use Rattle.sample.specs.declared.RawSample.{RawSample}
 use Rattle.sample.specs.declared.RearPressure.{RearPressure}
 use Rattle.sample.specs.declared.RearPressure.TheVariants.{Present, Lost}

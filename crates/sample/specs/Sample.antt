@@ -12,8 +12,7 @@ use Rattle.refusal.specs.Steps.{kept}
 use Rattle.refusal.specs.Written.{no_room, written}
 use Rattle.refusal.specs.declared.Refusal.{Refusal}
 use Rattle.refusal.specs.declared.Refusal.TheVariants.{WrongLength, WrongMark, OutOfRange, BadReading, NoRoom}
-use Rattle.refusal.specs.declared.Verdict.{Verdict}
-use Rattle.refusal.specs.declared.Verdict.TheVariants.{Refused}
+use Rattle.refusal.specs.Verdict.{Verdict, Refused}
 use Rattle.sample.specs.declared.Rear.{Rear}
 use Rattle.sample.specs.declared.Rear.TheVariants.{Present, Lost}
 use Rattle.sample.specs.declared.RawSample.{RawSample}

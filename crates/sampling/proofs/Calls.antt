@@ -7,14 +7,12 @@ use Rattle.refusal.specs.Lowest.{lowest}
 use Rattle.refusal.specs.Steps.{kept}
 use Rattle.refusal.specs.Written.{written}
 use Rattle.refusal.specs.declared.Refusal.{Refusal}
-use Rattle.refusal.specs.declared.Verdict.{Verdict}
-use Rattle.refusal.specs.declared.Verdict.TheVariants.{Accepted, Refused}
+use Rattle.refusal.specs.Verdict.{Verdict, Accepted, Refused}
 use Rattle.refusal.proofs.Exactly.{written_verdict}
 use Rattle.refusal.proofs.Order.{passed, append_given, append_passed}
 use Rattle.decision.specs.Decision as decision
 use Rattle.session.specs.declared.Session.{Session}
-use Rattle.session.specs.declared.Answer.{Answer}
-use Rattle.session.specs.Session.{answer, refused_with}
+use Rattle.session.specs.Session.{Answer, answer, refused_with}
 use Rattle.sampling.specs.Sample.{sample_in, rules, decision_of, emergency_decision_of, decisions_of, session_after, sample_call}
 use Rattle.sampling.specs.Steps.{rules_before}
 

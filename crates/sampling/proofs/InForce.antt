@@ -11,8 +11,7 @@ use Rattle.consist.specs.Consist.{fields_of, ranges, in_range, out_of_range, too
 use Rattle.consist.proofs.Sound as consist
 use Rattle.brake.specs.declared.Brake.{Brake}
 use Rattle.brake.specs.Sound.{Sound}
-use Rattle.trend.specs.declared.Learnt.{Learnt}
-use Rattle.trend.specs.declared.Learnt.TheVariants.{Nothing, Time}
+use Rattle.trend.specs.Result.{Learnt, Nothing, Time}
 use Rattle.learn.specs.declared.Learner.{Learner}
 use Rattle.learn.specs.declared.Shown.{Shown}
 use Rattle.learn.specs.Kept.{taught_of}

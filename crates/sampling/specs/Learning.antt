@@ -5,8 +5,7 @@ use Rattle.sample.specs.declared.Sample.{Sample}
 use Rattle.brake.specs.declared.State.{State}
 use Rattle.brake.specs.declared.State.TheVariants.{Charged, ApplyingService, HoldingService, ApplyingEmergency, HoldingEmergency, Charging}
 use Rattle.brake.specs.declared.Brake.{Brake}
-use Rattle.trend.specs.declared.Learnt.{Learnt}
-use Rattle.trend.specs.declared.Learnt.TheVariants.{Nothing, Time}
+use Rattle.trend.specs.Result.{Learnt, Nothing, Time}
 use Rattle.learn.specs.declared.Shown.{Shown}
 
 -- "in a service application": state 1 or 2

@@ -20,8 +20,7 @@ use Rattle.admission.specs.Table.{wrong_time, lines_open}
 use Rattle.prediction.specs.declared.Outcome.{Outcome}
 use Rattle.prediction.specs.Prediction.{approach_of, emergency_of, outcome_of}
 use Rattle.session.specs.declared.Session.{Session}
-use Rattle.session.specs.declared.Answer.{Answer}
-use Rattle.session.specs.Session.{is_open, answer}
+use Rattle.session.specs.Session.{Answer, is_open, answer}
 use Rattle.sampling.specs.Learning.{shown_of, in_force}
 
 -- the sample that bytes stand for

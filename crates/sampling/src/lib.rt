@@ -3,7 +3,7 @@
 
 ghost use Rattle.std.specs.Prelude.{◌≡◌};
 ghost use Rattle.prediction.specs.Steps.{Ready};
-ghost use Rattle.session.specs.Session.{call_told};
+ghost use Rattle.session.specs.Session.{answer, call_told};
 ghost use Rattle.learn.specs.Sound.{Sound};
 ghost use Rattle.sampling.specs.Learning.{is_service, shown_of, in_force};
 ghost use Rattle.sampling.specs.Sample.{decided_with, sample_call};
@@ -15,18 +15,17 @@ use decision::Decision;
 use learn::Shown;
 use refusal::{Refusal, Verdict};
 use sample::Sample;
-use session::{Answer, Session};
-use trend::Learnt;
+use session::Session;
 
 // What an admitted sample makes of the session, what is decided, and what of emergency.
-#[derive(Clone, Copy)]
+#[derive(Clone, Copy, Debug, PartialEq, Eq)]
 pub struct After {
     pub session: Session,
     pub decision: Decision,
     pub emergency: Decision,
 }
 
-// A record: its bit is set where there is a cause.
+// A record: its bit is set where there is a cause. It has the bit, and a cause of 0 for none, by `decided_with`.
 fn decided(emergency: bool, time: u32, state: u8, cause: u8, stop: u32) -> Decision
     ensures { result ≡ decided_with emergency time state cause stop }
 {
@@ -40,129 +39,76 @@ fn decided(emergency: bool, time: u32, state: u8, cause: u8, stop: u32) -> Decis
     }
 }
 
+// No twin of `air`'s test of emergency: one `matches!` each, of other states.
 fn is_service(state: State) -> bool
     ensures { result ≡ is_service state }
 {
-    match state {
-        State::Charged => false,
-        State::ApplyingService => true,
-        State::HoldingService => true,
-        State::ApplyingEmergency => false,
-        State::HoldingEmergency => false,
-        State::Charging => false,
-    }
+    matches!(state, State::ApplyingService | State::HoldingService)
 }
 
-// What a sample shows the learner, after its update.
+// What a sample shows the learner, after its update: field by field, since they come from three values.
 fn shown(c: Consist, k: Brake, m: Sample) -> Shown
     ensures { result ≡ shown_of c k m }
 {
-    let state = k.state;
-    let rear = m.rear;
     Shown {
-        service: is_service(state),
+        service: is_service(k.state),
         set: c.set,
         equalization: k.equalization,
         time: m.time,
         front: m.front,
-        rear,
+        rear: m.rear,
     }
 }
 
 // The consist with the application time that is in force from the next sample on.
-fn in_force(c: Consist, learnt: Learnt) -> Consist
+fn in_force(c: Consist, learnt: Option<u32>) -> Consist
     ensures { result ≡ in_force c learnt }
 {
-    let blocks = c.blocks;
     match learnt {
-        Learnt::Nothing => c,
-        Learnt::Time(ms) => Consist {
-            cars: c.cars,
-            axles: c.axles,
-            weight: c.weight,
-            length: c.length,
-            rated: c.rated,
-            application: ms,
-            recharge: c.recharge,
-            set: c.set,
-            offset: c.offset,
-            blocks,
-        },
+        None => c,
+        Some(application) => Consist { application, ..c },
     }
 }
 
-// The update, what the sample teaches, the prediction, the standing penalty and emergency, the two decisions.
-fn advance(x: Session, m: Sample, p: &[u8], t: &[u8]) -> After
-    requires ready { Ready x.consist x.brake m p.now }
-    requires learner { Sound x.learner }
-    ensures { result ≡ after_of x m p.now t.now }
+// The update, what the sample teaches, the prediction, the standing penalty and emergency, the two decisions. That the learner is
+// sound is asked and no invariant: `is_open` answers for learners that are not.
+fn advance(x: &Session, m: Sample, p: &[u8], t: &[u8]) -> After
+    requires ready { Ready x.now.consist x.now.brake m p.now }
+    requires learner { Sound x.now.learner }
+    ensures { result ≡ after_of x.now m p.now t.now }
 {
-    let c = x.consist;
-    let held = x.brake;
-    let rear = m.rear;
-    let updated = update::updated(held, c, m.time, m.front, rear);
-    let l = x.learner;
-    let lesson = learn::taught(l, shown(c, updated, m));
-    let learnt = lesson.learnt;
-    let learner = lesson.learner;
-    let found = prediction::of_sample(c, updated, m, p, t, x.cause);
+    let updated = update::updated(x.brake, x.consist, m);
+    let lesson = learn::taught(x.learner, shown(x.consist, updated, m));
+    let found = prediction::of_sample(x.consist, updated, m, p, t, x.cause);
     let cause = judge::standing(x.cause, found.called);
     let called = judge::standing(x.emergency, found.emergency_called);
-    let state = updated.state;
-    let number = brake::state_number(state);
-    let decision = decided(false, m.time, number, cause, found.stop);
-    let emergency = decided(true, m.time, number, called, found.emergency_stop);
-    // from the next sample on: this one is predicted with the time that was in force
-    let consist = in_force(c, learnt);
-    let session = Session {
-        opened: true,
-        consist,
-        brake: updated,
-        learner,
-        cause,
-        emergency: called,
-    };
+    let number = updated.state.number();
     After {
-        session,
-        decision,
-        emergency,
+        session: Session {
+            opened: true,
+            // from the next sample on: this one is predicted with the time that was in force
+            consist: in_force(x.consist, lesson.learnt),
+            brake: updated,
+            learner: lesson.learner,
+            cause,
+            emergency: called,
+        },
+        decision: decided(false, m.time, number, cause, found.stop),
+        emergency: decided(true, m.time, number, called, found.emergency_stop),
     }
 }
 
-// Judges a sample, with the profile and the targets lent for it, and writes the two decisions to the front of `out`.
-pub fn sample(x: Session, s: &[u8], p: &[u8], t: &[u8], out: &mut [u8]) -> Answer
-    ensures { call_told (result, out.new) ≡ call_told (sample_call x s.now p.now t.now out.old) }
+// Judges a sample, with the profile and the targets lent for it, moves the session on and writes the two decisions to the front of `out`;
+// where that is refused, the session and `out` stay as they were.
+pub fn sample(x: &mut Session, s: &[u8], p: &[u8], t: &[u8], out: &mut [u8]) -> Verdict
+    ensures { call_told (answer x.new result, out.new) ≡ call_told (sample_call x.old s.now p.now t.now out.old) }
 {
-    if !session::is_open(x) {
-        return Answer {
-            session: x,
-            verdict: Verdict::Refused(Refusal::NoSession),
-        };
-    }
-    let c = x.consist;
-    let k = x.brake;
-    let entry = admission::admit(c, k, s, p, t);
-    let admitted = entry.verdict;
-    let Verdict::Accepted = admitted else {
-        return Answer {
-            session: x,
-            verdict: admitted,
-        };
+    let Some(()) = refusal::unless(!session::is_open(*x)) else {
+        return Err(Refusal::NoSession);
     };
-    let m = entry.sample;
+    let m = admission::admit(x.consist, x.brake, s, p, t)?;
     let next = advance(x, m, p, t);
-    let session = next.session;
-    let first = next.decision;
-    let second = next.emergency;
-    let written = decision::write_both(first, second, out);
-    let Verdict::Accepted = written else {
-        return Answer {
-            session: x,
-            verdict: written,
-        };
-    };
-    Answer {
-        session,
-        verdict: Verdict::Accepted,
-    }
+    decision::write_both(next.decision, next.emergency, out)?;
+    *x = next.session;
+    Ok(())
 }

@@ -16,11 +16,9 @@ pub fn check_word(s: &[u8]) -> u32
 {
     let mut sum: u32 = 0;
     let mut sums: u32 = 0;
-    let mut i: usize = 0;
-    while i < s.len() {
-        sum = (sum + s[i] as u32) % MODULUS;
+    for &byte in s {
+        sum = (sum + byte as u32) % MODULUS;
         sums = (sums + sum) % MODULUS;
-        i += 1;
     }
     sum * MODULUS + sums
 }

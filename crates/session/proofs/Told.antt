@@ -6,8 +6,7 @@ use Rattle.refusal.proofs.Numbers.{told_one}
 use Rattle.brake.proofs.Told.{brake_one}
 use Rattle.learn.proofs.Stages.{learner_one}
 use Rattle.session.specs.declared.Session.{Session}
-use Rattle.session.specs.declared.Answer.{Answer}
-use Rattle.session.specs.Session.{session_told, answer, answer_told, call_told}
+use Rattle.session.specs.Session.{Answer, session_told, answer, answer_told, call_told}
 
 pub session_one : (x y : Session) → session_told x ≡ session_told y → x ≡ y
 session_one x y h =

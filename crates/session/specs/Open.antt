@@ -2,15 +2,14 @@
 -- Definitions only.
 use Rattle.std.specs.Prelude.{true, List, ℕ}
 use Rattle.refusal.specs.Steps.{kept}
-use Rattle.refusal.specs.declared.Verdict.{Verdict}
+use Rattle.refusal.specs.Verdict.{Verdict}
 use Rattle.consist.specs.declared.Consist.{Consist}
 use Rattle.consist.specs.Consist.{read_consist}
 use Rattle.brake.specs.declared.Choice.{Choice}
 use Rattle.brake.specs.Brake.{at_opening}
 use Rattle.learn.specs.Stage as learn
 use Rattle.session.specs.declared.Session.{Session}
-use Rattle.session.specs.declared.Answer.{Answer}
-use Rattle.session.specs.Session.{answer}
+use Rattle.session.specs.Session.{Answer, answer}
 
 -- "Opening gives state 0, hold = A = set, B = 0"; no penalty and no emergency stands; what was learnt is forgotten
 abbrev pub opened_with : Consist → Choice → Session

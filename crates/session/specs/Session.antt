@@ -2,8 +2,7 @@
 use Rattle.std.specs.Prelude.{Bool, false, not, ◌&&◌, ◌||◌, List, ℕ, leb, eqb}
 use Rattle.refusal.specs.Number.{told}
 use Rattle.refusal.specs.declared.Refusal.{Refusal}
-use Rattle.refusal.specs.declared.Verdict.{Verdict}
-use Rattle.refusal.specs.declared.Verdict.TheVariants.{Refused}
+use Rattle.refusal.specs.Verdict.{Verdict, Refused}
 use Rattle.consist.specs.declared.Consist.{Consist}
 use Rattle.consist.specs.Consist as consist
 use Rattle.targets.specs.Targets as targets
@@ -14,7 +13,6 @@ use Rattle.learn.specs.Stage as learn
 use Rattle.learn.specs.Stage.{learner_told}
 use Rattle.learn.specs.Sound as learner
 use Rattle.session.specs.declared.Session.{Session}
-use Rattle.session.specs.declared.Answer.{Answer}
 
 -- ---- "a session is open"
 
@@ -49,7 +47,11 @@ none_open = record {
   emergency = 0;
 }
 
--- what a call hands back
+-- what a call hands back: the session from now on, and what it has to say
+pub record Answer : Type 0 where
+  pub session : Session
+  pub verdict : Verdict
+
 abbrev pub answer : Session → Verdict → Answer
 answer x v = record { session = x; verdict = v }
 

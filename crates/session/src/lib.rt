@@ -2,7 +2,7 @@
 #![tactic(auto)]
 
 ghost use Rattle.std.specs.Prelude.{◌≡◌};
-ghost use Rattle.session.specs.Session.{is_open, none_open, session_told, answer_told};
+ghost use Rattle.session.specs.Session.{is_fresh, is_open, none_open, session_told, answer, answer_told};
 ghost use Rattle.session.specs.Open.{open_of};
 
 use blocks::Blocks;
@@ -12,8 +12,9 @@ use learn::{Learner, Stage};
 use refusal::Verdict;
 use targets::Target;
 
-// What is held from call to call.
-#[derive(Clone, Copy)]
+// What is held from call to call. `opened` is a flag and a cause a number with 0 for none: `is_open` answers for each such value, and
+// the record of an open session holds them so (`fields_of`).
+#[derive(Clone, Copy, Debug, PartialEq, Eq)]
 pub struct Session {
     // by an opening
     pub opened: bool,
@@ -28,18 +29,10 @@ pub struct Session {
     pub emergency: u8,
 }
 
-// What a call hands back: the session from now on, and what it has to say.
-#[derive(Clone, Copy)]
-pub struct Answer {
-    pub session: Session,
-    pub verdict: Verdict,
-}
-
 // The value before any opening.
 pub fn none() -> Session
     ensures { session_told result ≡ session_told none_open }
 {
-    let blocks = Blocks::none();
     let consist = Consist {
         cars: 0,
         axles: 0,
@@ -50,67 +43,56 @@ pub fn none() -> Session
         recharge: 0,
         set: 0,
         offset: 0,
-        blocks,
+        blocks: Blocks::none(),
     };
-    let brake = Brake::at_opening(consist, Choice::FiveSeconds);
-    let learner = Learner::bare(Stage::Waiting);
     Session {
         opened: false,
         consist,
-        brake,
-        learner,
+        brake: Brake::at_opening(consist, Choice::FiveSeconds),
+        learner: Learner::bare(Stage::Waiting),
         cause: 0,
         emergency: 0,
     }
 }
 
-// Whether a session is open, as far as a test on its value can tell.
+// Whether a session is as it was opened: no sample taken, nothing learnt, and no penalty.
+fn is_fresh(x: &Session) -> bool
+    ensures { result ≡ is_fresh x.now }
+{
+    x.brake.is_at_opening(x.consist)
+        & x.learner.is_at_opening()
+        & (x.cause == 0)
+        & (x.emergency == 0)
+}
+
+// Whether a session is open, as far as a test on its value can tell: by value, as `session_is_open` in demands' `Calls` states it.
+#[tactic(auto, unfolding(crate::specs::Session::is_open))]
 pub fn is_open(x: Session) -> bool
     ensures { result ≡ is_open x }
 {
-    let c = x.consist;
-    let k = x.brake;
-    let l = x.learner;
-    let consist_sound = consist::is_sound(c);
-    let brake_sound = k.is_sound(c);
-    let learner_sound = l.is_sound();
-    let opening = k.is_at_opening(c) & l.is_at_opening();
-    let fresh = opening & (x.cause == 0) & (x.emergency == 0);
-    let behind = (x.emergency == 0) | (x.cause != 0);
     x.opened
-        & consist_sound
-        & brake_sound
-        & learner_sound
+        & consist::is_sound(x.consist)
+        & x.brake.is_sound(x.consist)
+        & x.learner.is_sound()
         & (x.cause as usize <= Target::MOST)
         & (x.emergency as usize <= Target::MOST)
-        & behind
-        & (k.sampled | fresh)
+        & ((x.emergency == 0) | (x.cause != 0))
+        & (x.brake.sampled | is_fresh(&x))
 }
 
-// Opens a session anew with the consist that the bytes are, and the choice of what a lost rear counts as.
-pub fn open(x: Session, s: &[u8], choice: Choice) -> Answer
-    ensures { answer_told result ≡ answer_told (open_of x s.now choice) }
+// Opens a session anew with the consist that the bytes are, and the choice of what a lost rear counts as; where that is
+// refused, the session stays as it was.
+pub fn open(x: &mut Session, s: &[u8], choice: Choice) -> Verdict
+    ensures { answer_told (answer x.new result) ≡ answer_told (open_of x.old s.now choice) }
 {
-    let read = consist::read(s);
-    let verdict = read.verdict;
-    let Verdict::Accepted = verdict else {
-        return Answer {
-            session: x,
-            verdict,
-        };
+    let consist = consist::read(s)?;
+    *x = Session {
+        opened: true,
+        consist,
+        brake: Brake::at_opening(consist, choice),
+        learner: Learner::bare(Stage::Waiting),
+        cause: 0,
+        emergency: 0,
     };
-    let c = read.consist;
-    let brake = Brake::at_opening(c, choice);
-    let learner = Learner::bare(Stage::Waiting);
-    Answer {
-        session: Session {
-            opened: true,
-            consist: c,
-            brake,
-            learner,
-            cause: 0,
-            emergency: 0,
-        },
-        verdict: Verdict::Accepted,
-    }
+    Ok(())
 }

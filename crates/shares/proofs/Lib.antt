@@ -3,5 +3,6 @@ pub mod Nested
 pub mod One
 pub mod Bounds
 pub mod Sums
+pub mod Turns
 pub mod Figures
 pub mod Unique

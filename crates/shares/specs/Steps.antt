@@ -1,5 +1,5 @@
 -- What the steps on the way to the averages by weight find and ask. Definitions only.
-use Rattle.std.specs.Prelude.{◌≡◌, List, ℕ, ◌+◌, ◌-◌, ◌*◌, ◌/◌, ◌^◌, ◌≤◌, ◌<◌, ℤ, pos, nat_abs, ◌+ℤ◌, ◌-ℤ◌, ◌*ℤ◌}
+use Rattle.std.specs.Prelude.{◌≡◌, ℕ, ◌+◌, ◌-◌, ◌*◌, ◌/◌, ◌^◌, ◌≤◌, ◌<◌, ℤ, pos, nat_abs, ◌+ℤ◌, ◌-ℤ◌, ◌*ℤ◌}
 use Rattle.whole.specs.Floor.{floor_div}
 use Rattle.blocks.specs.declared.Blocks.{Blocks}
 use Rattle.blocks.specs.Blocks.{most, length_of, weight_of, sum_to}
@@ -9,10 +9,6 @@ use Rattle.track.specs.declared.Sums.{Sums}
 use Rattle.track.specs.Steps.{Behind}
 use Rattle.shares.specs.declared.Shares.{Shares}
 use Rattle.shares.specs.Shares.{grade_shares, curvature_shares}
-
--- the blocks whose arrays these are
-abbrev pub blocks_of : ℕ → List ℕ → List ℕ → Blocks
-blocks_of count lengths weights = record { count = count; lengths = lengths; weights = weights }
 
 -- some blocks that weigh this much together
 pub record Loaded (b : Blocks) (weight : ℕ) : Type 0 where

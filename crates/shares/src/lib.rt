@@ -1,31 +1,29 @@
 // The average grade and curvature of the track under a train, by the weight of its blocks; without blocks, as `track` has them.
-// `under` asks for a gentle track, that track's totals, and blocks that are right for the train's length and weight.
+// `under` asks for a gentle track and blocks that are right for the train's length and weight.
 #![tactic(auto)]
 
 ghost use Rattle.std.specs.Prelude.{◌≡◌, ◌-◌, ◌*◌, ◌^◌, ◌≤◌, ◌<◌, nat_abs};
 ghost use Rattle.blocks.specs.Sound.{Sound};
 ghost use Rattle.track.specs.Gentle.{Gentle};
 ghost use Rattle.track.specs.Track.{under_of};
-ghost use Rattle.track.specs.Totals.{AreTotals};
-ghost use Rattle.track.specs.Steps.{track_of};
 ghost use Rattle.shares.specs.Shares.{by_weight, ground_under};
-ghost use Rattle.shares.specs.Steps.{blocks_of, grade_share_of, curvature_share_of, plus_of, over_of, Between, Loaded};
+ghost use Rattle.shares.specs.Steps.{grade_share_of, curvature_share_of, plus_of, over_of, Between, Loaded};
 
 use blocks::Blocks;
-use profile::Segment;
-use track::{Sums, Under};
+use track::{Route, Sums, Under};
 
-// The ends of the most blocks: the train's head, and the rear of each.
+// The ends of the most blocks: the train's head, and the rear of each. `near` is an array of so many, as there is no heap.
+// It goes beside the route, which is lent to both walks, while each has a `near` of its own and changes it.
 pub const ENDS: usize = 65;
 
-// The total of blocks' shares.
-#[derive(Clone, Copy)]
+// The total of blocks' shares: a type beside `Sums`, since shares are of tons and sums of feet.
+#[derive(Clone, Copy, Debug, PartialEq, Eq)]
 struct Shares {
     grade: i64,
     curvature: u64,
 }
 
-// Of a sum of grade × feet in hundredths, down; in ten-thousandths.
+// Of a sum of grade × feet in hundredths, down; in ten-thousandths. Not `track`'s averages: a weight comes in before each is rounded, here and below.
 fn grade_share(sum: i64, length: u16, weight: u16) -> i64
     requires { nat_abs sum ≤ 500 * length }
     ensures { result ≡ grade_share_of sum length weight }
@@ -67,155 +65,66 @@ impl Shares {
     }
 }
 
-// Where a block's rear is; a train longer than where its head is begins at 0.
-fn rear_of(front: u32, length: u16) -> u32
-    ensures { result ≡ front - length }
-{
-    whole::above(front as u64, length as u64) as u32
-}
-
-// By weight, of a train that has blocks.
-fn by_weight<'a, 'b>(
-    count: usize,
-    starts: &'a [u32; Segment::MOST],
-    grades: &'a [i16; Segment::MOST],
-    curvatures: &'a [u16; Segment::MOST],
-    grade_totals: &'a [i64; Segment::MOST],
-    curvature_totals: &'a [u64; Segment::MOST],
+// By weight, of a train that has blocks. By an index: the rear of block k is looked for at place k + 1 of `near`.
+fn by_weight<'a>(
+    route: Route<'a>,
     head: u32,
     weight: u16,
-    blocks: u8,
-    lengths: &'b [u16; Blocks::MOST],
-    weights: &'b [u16; Blocks::MOST],
+    blocks: &Blocks,
     near: &mut [usize; ENDS],
 ) -> Under
-    requires gentle { Gentle (track_of count starts.now grades.now curvatures.now) }
-    requires are_totals { AreTotals (track_of count starts.now grades.now curvatures.now) grade_totals.now curvature_totals.now }
-    requires loaded { Loaded (blocks_of blocks lengths.now weights.now) weight }
-    ensures { result ≡ by_weight (track_of count starts.now grades.now curvatures.now) head weight (blocks_of blocks lengths.now weights.now) }
+    requires gentle { Gentle route.track.now }
+    requires loaded { Loaded blocks.now weight }
+    ensures { result ≡ by_weight route.entry.track.now head weight blocks.now }
 {
-    let first: usize = 0;
-    let at_head = track::reached_at(
-        count,
-        starts,
-        grades,
-        curvatures,
-        grade_totals,
-        curvature_totals,
-        head,
-        near[first],
-    );
-    near[first] = at_head.segment;
+    let at_head = route.reached_at(head, near[0]);
+    near[0] = at_head.segment;
     let mut front = at_head.sums;
     let mut location = head;
     let mut shares = Shares {
         grade: 0,
         curvature: 0,
     };
-    let last = blocks as usize;
-    let mut k: usize = 0;
-    while k < last {
-        let next = k + 1;
-        location = rear_of(location, lengths[k]);
-        let at_rear = track::reached_at(
-            count,
-            starts,
-            grades,
-            curvatures,
-            grade_totals,
-            curvature_totals,
-            location,
-            near[next],
-        );
-        near[next] = at_rear.segment;
-        let rear = at_rear.sums;
-        shares = shares.plus(rear, front, lengths[k], weights[k]);
-        front = rear;
-        k = next;
+    for k in 0..blocks.count as usize {
+        let length = blocks.lengths[k];
+        // a train longer than where its head is begins at 0
+        location = location.saturating_sub(length as u32);
+        let at_rear = route.reached_at(location, near[k + 1]);
+        near[k + 1] = at_rear.segment;
+        shares = shares.plus(at_rear.sums, front, length, blocks.weights[k]);
+        front = at_rear.sums;
     }
     shares.over(weight)
 }
 
 // Over the length, of a train that has none.
-fn over_length<'a>(
-    count: usize,
-    starts: &'a [u32; Segment::MOST],
-    grades: &'a [i16; Segment::MOST],
-    curvatures: &'a [u16; Segment::MOST],
-    grade_totals: &'a [i64; Segment::MOST],
-    curvature_totals: &'a [u64; Segment::MOST],
-    head: u32,
-    length: u16,
-    near: &mut [usize; ENDS],
-) -> Under
-    requires gentle { Gentle (track_of count starts.now grades.now curvatures.now) }
-    requires are_totals { AreTotals (track_of count starts.now grades.now curvatures.now) grade_totals.now curvature_totals.now }
-    ensures { result ≡ under_of (track_of count starts.now grades.now curvatures.now) head length }
+fn over_length<'a>(route: Route<'a>, head: u32, length: u16, near: &mut [usize; ENDS]) -> Under
+    requires gentle { Gentle route.track.now }
+    ensures { result ≡ under_of route.entry.track.now head length }
 {
-    let found = track::under_train(
-        count,
-        starts,
-        grades,
-        curvatures,
-        grade_totals,
-        curvature_totals,
-        head,
-        length as u32,
-        near[0],
-        near[1],
-    );
+    let found = route.under_train(head, length as u32, near[0], near[1]);
     near[0] = found.head_in;
     near[1] = found.rear_in;
     found.under
 }
 
-// G and C, by the totals that `Totals::summed` gives of this track. `near` is where the segments of the blocks' ends are looked for first, and keeps
-// where they were found: whatever is in it, the answer is the same.
-pub fn under<'a, 'b>(
-    count: usize,
-    starts: &'a [u32; Segment::MOST],
-    grades: &'a [i16; Segment::MOST],
-    curvatures: &'a [u16; Segment::MOST],
-    grade_totals: &'a [i64; Segment::MOST],
-    curvature_totals: &'a [u64; Segment::MOST],
+// G and C. `near` is where the segments of the blocks' ends are looked for first, and keeps where they were found: whatever is in it, the answer is the same.
+#[tactic(auto, unfolding(crate::specs::Shares::ground_under))]
+pub fn under<'a>(
+    route: Route<'a>,
     head: u32,
     length: u16,
     weight: u16,
-    blocks: u8,
-    lengths: &'b [u16; Blocks::MOST],
-    weights: &'b [u16; Blocks::MOST],
+    blocks: &Blocks,
     near: &mut [usize; ENDS],
 ) -> Under
-    requires gentle { Gentle (track_of count starts.now grades.now curvatures.now) }
-    requires are_totals { AreTotals (track_of count starts.now grades.now curvatures.now) grade_totals.now curvature_totals.now }
-    requires sound { Sound (blocks_of blocks lengths.now weights.now) length weight }
-    ensures { result ≡ ground_under (track_of count starts.now grades.now curvatures.now) head length weight (blocks_of blocks lengths.now weights.now) }
+    requires gentle { Gentle route.track.now }
+    requires sound { Sound blocks.now length weight }
+    ensures { result ≡ ground_under route.entry.track.now head length weight blocks.now }
 {
-    if blocks == 0 {
-        return over_length(
-            count,
-            starts,
-            grades,
-            curvatures,
-            grade_totals,
-            curvature_totals,
-            head,
-            length,
-            near,
-        );
+    if blocks.count == 0 {
+        over_length(route, head, length, near)
+    } else {
+        by_weight(route, head, weight, blocks, near)
     }
-    by_weight(
-        count,
-        starts,
-        grades,
-        curvatures,
-        grade_totals,
-        curvature_totals,
-        head,
-        weight,
-        blocks,
-        lengths,
-        weights,
-        near,
-    )
 }

@@ -12,7 +12,7 @@ use consist::Consist;
 use track::Under;
 
 // What the cylinder pressure does as the clock runs: base + gain × min(slope × t / per, most) / 2.
-#[derive(Clone, Copy)]
+#[derive(Clone, Copy, Debug, PartialEq, Eq)]
 pub struct Curve {
     pub base: u64,
     pub gain: u64,
@@ -22,7 +22,7 @@ pub struct Curve {
 }
 
 // What a step reads of a consist.
-#[derive(Clone, Copy)]
+#[derive(Clone, Copy, Debug, PartialEq, Eq)]
 pub struct Load {
     pub cars: u16,
     pub axles: u16,
@@ -33,7 +33,7 @@ pub struct Load {
 }
 
 // The moving part of a walk: head location, clock in ms, squared speed.
-#[derive(Clone, Copy)]
+#[derive(Clone, Copy, Debug, PartialEq, Eq)]
 pub struct Run {
     pub head: u32,
     pub clock: u64,
@@ -42,24 +42,26 @@ pub struct Run {
 
 impl Curve {
     // The service application that a penalty makes, from the pressures A and B.
+    // Pressures by themselves, here and in `emergency`: this is made from a brake, that from an `Air`.
+    #[tactic(auto, unfolding(crate::specs::Curve::penalty_curve))]
     pub fn penalty(c: Consist, a: u16, b: u16) -> Curve
         ensures { result ≡ penalty_curve c a b }
     {
-        let end = brake::equalization_service(a, b);
         Curve {
             base: b as u64,
             gain: 5,
             slope: 2 * c.set as u64,
             per: 7 * c.application as u64,
-            most: whole::above(a as u64, end as u64),
+            most: a.saturating_sub(brake::equalization_service(a, b)) as u64,
         }
     }
 
     // Emergency air, from A as it is applied, B and the equalization that A falls to.
+    #[tactic(auto, unfolding(crate::specs::Curve::emergency_curve))]
     pub fn emergency(a: u16, b: u16, equalization: u16) -> Curve
         ensures { result ≡ emergency_curve a b equalization }
     {
-        let most = whole::above(a as u64, equalization as u64);
+        let most = a.saturating_sub(equalization) as u64;
         Curve {
             base: b as u64,
             gain: 12,
@@ -70,17 +72,20 @@ impl Curve {
     }
 
     // F in lb, of a train with this rated force, t ms after the brakes are applied.
+    #[tactic(auto, unfolding(crate::specs::Curve::force_at, crate::specs::Curve::cylinder_at, crate::specs::Curve::drop_at))]
     fn force(self, rated: u32, t: u64) -> u64
         requires { Applied self t }
         ensures { result ≡ force_at rated self t }
     {
-        let drop = whole::lesser(self.slope * t / self.per, self.most);
+        let drop = (self.slope * t / self.per).min(self.most);
         let p = self.base + self.gain * drop / 2;
         rated as u64 * p / 6_400
     }
 }
 
 // In millionths of a lb, at s and q, over the ground u.
+// `Opposed` and its numbers stand here, in `lost` and in `slowed`, as the definitions take them, load and ground in `stepped` too:
+// a type would be made once, for these calls alone.
 fn opposing_force(load: Load, f: u64, s: u64, q: u64, u: Under) -> i64
     requires { Opposed f s q u }
     ensures { result ≡ opposing (carrying load) f s q u.grade u.curvature }
@@ -108,7 +113,7 @@ fn lost(load: Load, f: u64, s: u64, q: u64, u: Under) -> i64
     )
 }
 
-// q after a step; below zero counts as zero.
+// q after a step; below zero counts as zero: a branch says which case it is, as `max` before the cast would not.
 fn slowed(load: Load, f: u64, s: u64, q: u64, u: Under) -> u64
     requires { Opposed f s q u }
     ensures { result ≡ cut (pos q -ℤ loss (carrying load) f s q u.grade u.curvature) }

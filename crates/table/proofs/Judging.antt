@@ -13,8 +13,7 @@ use borrow.Author.Tests.{leb-true, ltb-true, eqb-true, not-true, not-false}
 use Rattle.bits.proofs.Ranges.{and-true_left, and-true_right}
 use Rattle.refusal.specs.Lowest.{lowest}
 use Rattle.refusal.specs.Steps.{kept}
-use Rattle.refusal.specs.declared.Verdict.{Verdict}
-use Rattle.refusal.specs.declared.Verdict.TheVariants.{Accepted}
+use Rattle.refusal.specs.Verdict.{Verdict, Accepted}
 use Rattle.refusal.proofs.Order.{accepted}
 use Rattle.refusal.proofs.Steps.{first_of, in_order}
 use Rattle.table.specs.Table.{every, Table, counted, rises, good, closed, lawful, count, record_at, clean_at, lawful_in, judge_rules, answer, judge}
@@ -52,10 +51,6 @@ module _ {A : Type 0} (t : Table A) where
       let b = leb n t.most in
       (leb-true t.fewest n (and-true_left a b h), leb-true n t.most (and-true_right a b h))
 
-  pub closed_any : ((g : A) → t.ends g ≡ true) → (n : ℕ) (f : ℕ → A) → true ≡ closed t n f
-  closed_any h zero f = refl
-  closed_any h (suc n) f = sym (h (f n))
-
   pub closed_last : (n : ℕ) (f : ℕ → A) → 0 < n → t.ends (f (n - 1)) ≡ closed t n f
   closed_last zero f h = absurd (not-suc-le-zero h)
   closed_last (suc n) f h = ap (λ (i : ℕ). t.ends (f i)) (omega arith)
@@ -73,9 +68,6 @@ module _ {A : Type 0} (t : Table A) where
       pub within : k ≤ n
       pub so_far : all ≡ every k (good t f right)
       pub last_key : before ≡ key_before k
-
-    pub judged_none : Judged 0 true 0
-    judged_none = record { within = omega arith; so_far = refl; last_key = refl }
 
     good_is : (k : ℕ) → good t f right k ≡ right k && (t.in_range (f k) && (eqb k 0 || ltb (key_before k) (t.key (f k))))
     unfolding good

@@ -5,3 +5,4 @@ pub mod Writing
 pub mod RoundTrip
 pub mod Computing
 pub mod Unique
+pub mod Keeping

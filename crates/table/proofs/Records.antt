@@ -1,4 +1,4 @@
--- What has to be shown of one record so that the laws of tables hold, and where the records of a table are. Assumes nothing.
+-- Where the records of a table are. Assumes nothing.
 use mathlib.Core.Path.{◌≡◌, refl, ap, ap₂, ◌∙◌}
 use mathlib.Core.Bool.{Bool, true, false, cond}
 use mathlib.Core.List.{List, [], ◌∷◌}
@@ -6,29 +6,15 @@ use Prim.Native.Nat.{ℕ, ◌+◌, ◌*◌, ◌/◌, ◌%◌, ◌^◌, ◌≤◌
 use native.Mathlib.Nat.{le-div_iff_mul-le, zero-div, zero-mod}
 use native.Mathlib.Omega.{arith}
 use lib.ListN.{length, length-take, length-drop}
-use lib.Dec.{T, ltb}
+use lib.Dec.{ltb}
 use borrow.Author.Tests.{ltb-true, le-ltb}
-use Rattle.bits.specs.Fields.{total, split, Fit}
+use Rattle.bits.specs.Fields.{total, split}
 use Rattle.bits.specs.Bytes.{fields_in}
 use Rattle.bits.specs.Places.{lies, behind, field_at, fields_from}
 use Rattle.bits.specs.Tables.{part}
-use Rattle.bits.proofs.Places.{narrow, fields_from_lem}
-use Rattle.refusal.specs.declared.Refusal.TheVariants.{NoRoom}
-use Rattle.refusal.proofs.Steps.{rising}
+use Rattle.bits.proofs.Places.{fields_from_lem}
+use Rattle.table.specs.Facts.{Facts}
 use Rattle.table.specs.Table.{Table, part_at, count, fields_at, record_at}
-
-pub record Facts {A : Type 0} (t : Table A) : Type 0 where
-  -- the widths take all the bytes, of which there are some, and none is too wide
-  pub some : 0 < t.size
-  pub whole : total t.widths ≡ 8 * t.size
-  pub narrow : T (narrow t.widths)
-  -- the fields of a value are right, and those of one in range fit and are its own; fields that are right are those of their value
-  pub right : (g : A) → t.clean (t.fields_of g) ≡ true
-  pub fits : (g : A) → t.in_range g ≡ true → Fit t.widths (t.fields_of g)
-  pub back : (g : A) → t.in_range g ≡ true → t.of_fields (t.fields_of g) ≡ g
-  pub forth : (m : ℕ) → t.clean (split t.widths m) ≡ true → t.fields_of (t.of_fields (split t.widths m)) ≡ split t.widths m
-  -- the refusal comes before that of the room
-  pub first : T (rising ((true, t.broken) ∷ (true, NoRoom) ∷ []))
 
 -- record k of w bytes lies in s
 pub inside : (w : ℕ) (s : List ℕ) (k : ℕ) → 0 < w → k < length s / w → w * k + w ≤ length s

@@ -13,12 +13,12 @@ use Rattle.bits.specs.Tables.{part}
 use Rattle.bits.proofs.Bytes.{total-eights, fields_of_bytes, bytes_of_fields, bytes_take, bytes_drop}
 use Rattle.bits.proofs.Ranges.{and-true_right}
 use Rattle.refusal.specs.Written.{no_room}
-use Rattle.refusal.specs.declared.Verdict.{Verdict}
-use Rattle.refusal.specs.declared.Verdict.TheVariants.{Accepted}
+use Rattle.refusal.specs.Verdict.{Verdict, Accepted}
 use Rattle.refusal.proofs.Order.{accepted, written_accepted}
 use Rattle.table.specs.Table.{Table, part_at, lawful, count, fields_at, record_at, clean_at, lawful_in, judge, record_bytes, bytes_of, lawful_of, write}
 use Rattle.table.specs.RoundTrip.{Holds}
-use Rattle.table.proofs.Records.{Facts, length_part}
+use Rattle.table.specs.Facts.{Facts}
+use Rattle.table.proofs.Records.{length_part}
 use Rattle.table.proofs.Judging.{lawful_sound, lawful_same, judge_is, judged_lawful, judged_whole, judged_sound}
 use Rattle.table.proofs.Writing.{length-bytes_of, part_of_bytes, bytes_of_parts, write_accepted}
 

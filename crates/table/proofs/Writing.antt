@@ -1,14 +1,15 @@
 -- What a loop that puts record after record needs, and what the writer answers. Assumes nothing.
 use mathlib.Core.Path.{◌≡◌, refl, sym, ap, ap₂, ◌∙◌}
 use mathlib.Core.Bool.{Bool, true, false, not}
-use mathlib.Core.List.{List, [], ◌∷◌, ◌++◌, append_assoc, append-nil}
-use Prim.Native.Nat.{ℕ, zero, suc, ◌+◌, ◌-◌, ◌*◌, ◌≤◌, ◌<◌}
-use native.Mathlib.Nat.{not-suc-le-zero, mul-zero, mul-suc, mul-le-mul_left, le_of_eq, le_antisymm}
+use mathlib.Core.List.{List, [], ◌∷◌, ◌++◌, append_assoc}
+use Prim.Native.Nat.{ℕ, zero, suc, ◌+◌, ◌*◌, ◌≤◌, ◌<◌}
+use native.Mathlib.Nat.{not-suc-le-zero, mul-zero, mul-suc, mul-le-mul_left, le_antisymm}
 use native.Mathlib.Numerals.{add-one}
 use native.Mathlib.Decide.{ℕ_discrete}
 use native.Mathlib.Omega.{arith}
-use lib.ListN.{length, length-append, length-drop, take, drop, drop_of_length-le}
-use lib.Seq.{take_at, take_all, drop_at, drop-drop, take-add}
+use lib.Dec.{ltb}
+use lib.ListN.{length, length-append, length-drop, take, drop}
+use lib.Seq.{take_at, drop_at, drop-drop, take-add}
 use borrow.Author.Tests.{le-ltb}
 use Rattle.bits.specs.Fields.{join}
 use Rattle.bits.specs.Bytes.{eights, Bytes}
@@ -20,10 +21,10 @@ use Rattle.bits.proofs.Places.{put_all}
 use Rattle.bits.proofs.Ranges.{and-true_right}
 use Rattle.refusal.specs.Written.{no_room, written}
 use Rattle.refusal.specs.declared.Refusal.TheVariants.{NoRoom}
-use Rattle.refusal.specs.declared.Verdict.TheVariants.{Accepted}
+use Rattle.refusal.specs.Verdict.{Accepted, Refused}
 use Rattle.refusal.proofs.Steps.{first_of, in_order}
-use Rattle.table.specs.Table.{Table, lawful, record_bytes, bytes_of, lawful_of, write_rules, write}
-use Rattle.table.proofs.Records.{Facts}
+use Rattle.table.specs.Table.{Table, lawful, record_bytes, put_at, bytes_of, lawful_of, write_rules, write}
+use Rattle.table.specs.Facts.{Facts}
 use Rattle.table.proofs.Judging.{lawful_sound}
 
 module _ {A : Type 0} (t : Table A) (f : ℕ → A) where
@@ -80,30 +81,27 @@ module _ {A : Type 0} (t : Table A) (f : ℕ → A) where
   pub put_ranged : {same : Bool} {n : ℕ} {xs : List ℕ} {k : ℕ} {out : List ℕ} → Put same n xs k out → k < n → t.in_range (f k) ≡ true
   put_ranged {same} {n} {xs} {k} {out} p l = (lawful_sound t n f (λ i. true) (and-true_right same (lawful t n f (λ i. true)) p.right)).each k l
 
+  pub put_inside : {same : Bool} {n : ℕ} {xs : List ℕ} {k : ℕ} {out : List ℕ} → Put same n xs k out → t.size * k ≤ length out
+  put_inside {same} {n} {xs} {k} {out} p =
+      let l : t.size * k ≤ t.size * n = mul-le-mul_left t.size p.within in
+      omega (arith, l, p.room, p.long)
+
   -- and one more, which is g
-  pub put_next : Facts t → {same : Bool} {n : ℕ} {xs : List ℕ} {k : ℕ} {out : List ℕ} → Put same n xs k out → k < n → Bytes xs → (g : A) → g ≡ f k → (zs : List ℕ)
-      → zs ≡ put_from 0 t.widths (t.fields_of g) (take (length out - t.size * k) (drop (t.size * k) out))
-      → Put same n xs (k + 1) (take (t.size * k) out ++ (zs ++ drop (length out - t.size * k) (drop (t.size * k) out)))
+  pub put_next : Facts t → {same : Bool} {n : ℕ} {xs : List ℕ} {k : ℕ} {out : List ℕ} → Put same n xs k out → k < n → Bytes xs → (g : A) → g ≡ f k
+      → Put same n xs (k + 1) (put_at t g k out)
   unfolding bytes_of
-  put_next facts {same} {n} {xs} {k} {out} p l b g is zs e =
+  put_next facts {same} {n} {xs} {k} {out} p l b g is =
       let w = t.size in
       let fits : w * suc k ≤ w * n = mul-le-mul_left w l in
-      let m = length out - w * k in
       let rest = drop (w * k) xs in
-      let size : length rest ≡ m = length-drop (w * k) xs ∙ omega (arith, p.long) in
-      let room : w ≤ length rest = omega (arith, size, mul-suc w k) in
+      let room : w ≤ length rest = omega (arith, length-drop (w * k) xs, p.room, mul-suc w k) in
       let behind : drop (w * k) out ≡ rest = ap (drop (w * k)) p.so_far ∙ drop_at (bytes_of t k f) rest (w * k) (length-bytes_of k) in
       let one = record_bytes t (f k) in
-      let z : zs ≡ one ++ drop w rest =
-      e
-      ∙ ap₂ (λ (x : A) (y : List ℕ). put_from 0 t.widths (t.fields_of x) (take m y)) is behind
-      ∙ ap (put_from 0 t.widths (t.fields_of (f k))) (take_all m rest (le_of_eq size))
-      ∙ put_all w t.widths (t.fields_of (f k)) rest facts.narrow facts.whole (facts.fits (f k) (put_ranged p l)) (bytes_drop (w * k) xs b) room in
-      let next : take (w * k) out ++ (zs ++ drop m (drop (w * k) out)) ≡ bytes_of t (suc k) f ++ drop (w * suc k) xs =
+      let next : put_at t g k out ≡ bytes_of t (suc k) f ++ drop (w * suc k) xs =
       ap₂ ◌++◌
       (ap (take (w * k)) p.so_far ∙ take_at (bytes_of t k f) rest (w * k) (length-bytes_of k))
-      (ap₂ ◌++◌ z (ap (drop m) behind ∙ drop_of_length-le rest (le_of_eq size))
-      ∙ append-nil _
+      (ap₂ (λ (x : A) (y : List ℕ). put_from 0 t.widths (t.fields_of x) y) is behind
+      ∙ put_all w t.widths (t.fields_of (f k)) rest facts.narrow facts.whole (facts.fits (f k) (put_ranged p l)) (bytes_drop (w * k) xs b) room
       ∙ ap (λ (x : List ℕ). one ++ x) (drop-drop w (w * k) xs ∙ ap (λ (i : ℕ). drop i xs) (sym (mul-suc w k))))
       ∙ sym (append_assoc (bytes_of t k f) one _) in
       let long : _ ≡ length xs = ap length next ∙ length-append (bytes_of t (suc k) f) _ ∙ omega (arith, length-bytes_of (suc k), length-drop (w * suc k) xs, p.room) in
@@ -115,6 +113,14 @@ module _ {A : Type 0} (t : Table A) (f : ℕ → A) where
       → write t same n f out ≡ written (first_of ((not a, t.broken) ∷ (b, NoRoom) ∷ [])) (bytes_of t n f) out
   unfolding write
   write_is facts same n out a b h e = rw (in_order (write_rules t same n f out) facts.first, h, e)
+
+  module _ (facts : Facts t) (same : Bool) (n : ℕ) (out : List ℕ) where
+    pub broken_is : lawful_of t same n f ≡ false → (Refused t.broken, out) ≡ write t same n f out
+    broken_is h = sym (write_is facts same n out false _ h refl)
+
+    pub no_room_is : lawful_of t same n f ≡ true → ltb (length out) (t.size * n) ≡ true → (Refused NoRoom, out) ≡ write t same n f out
+    unfolding no_room
+    no_room_is h e = sym (write_is facts same n out true true h e)
 
   pub write_accepted : Facts t → (same : Bool) (n : ℕ) (out : List ℕ) → lawful_of t same n f ≡ true → t.size * n ≤ length out
       → write t same n f out ≡ (Accepted, bytes_of t n f ++ drop (t.size * n) out)

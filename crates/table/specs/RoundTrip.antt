@@ -1,6 +1,6 @@
 -- What a table holds. Definitions only.
 use Rattle.std.specs.Prelude.{◌≡◌, ℕ, ◌<◌, List}
-use Rattle.refusal.specs.declared.Verdict.TheVariants.{Accepted}
+use Rattle.refusal.specs.Verdict.{Accepted}
 use Rattle.table.specs.Table.{Table, record_at, judge}
 
 -- s is accepted, with n records, and these are they

@@ -1,14 +1,15 @@
 -- A table: records of one size, one after the other, whose keys strictly rise. What it refuses as bytes and as records, and its bytes.
 -- Definitions only.
-use Rattle.std.specs.Prelude.{ℕ, zero, suc, ◌*◌, ◌/◌, ◌%◌, List, [], ◌∷◌, ◌++◌, Bool, true, ◌&&◌, not, cond, length, leb, ltb, eqb}
+use Rattle.std.specs.Prelude.{ℕ, zero, suc, ◌*◌, ◌/◌, ◌%◌, List, [], ◌∷◌, ◌++◌, Bool, true, ◌&&◌, not, cond, length, take, drop, leb, ltb, eqb}
 use Rattle.bits.specs.Bytes.{fields_in, bytes_from}
+use Rattle.bits.specs.Places.{put_from}
 use Rattle.bits.specs.Tables.{part}
 use Rattle.refusal.specs.Lowest.{Rule, lowest}
 use Rattle.refusal.specs.Steps.{kept}
 use Rattle.refusal.specs.Written.{no_room, written}
 use Rattle.refusal.specs.declared.Refusal.{Refusal}
 use Rattle.refusal.specs.declared.Refusal.TheVariants.{NoRoom}
-use Rattle.refusal.specs.declared.Verdict.{Verdict}
+use Rattle.refusal.specs.Verdict.{Verdict}
 
 -- f holds at each number below n
 abbrev pub every : ℕ → (ℕ → Bool) → Bool
@@ -100,6 +101,10 @@ module _ {A : Type 0} (t : Table A) where
 
   abbrev pub record_bytes : A → List ℕ
   record_bytes g = bytes_from t.size t.widths (t.fields_of g)
+
+  -- the bytes of record k put over what stood there
+  abbrev pub put_at : A → ℕ → List ℕ → List ℕ
+  put_at g k out = take (t.size * k) out ++ put_from 0 t.widths (t.fields_of g) (drop (t.size * k) out)
 
   unfoldable pub bytes_of : ℕ → (ℕ → A) → List ℕ
   bytes_of zero f = []

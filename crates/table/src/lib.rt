@@ -1,8 +1,11 @@
-// What every table of records has in common: where its records are.
+//! What every table of records has in common.
 #![tactic(auto)]
 
 ghost use Rattle.std.specs.Prelude.{◌≡◌, ◌<◌};
 ghost use Rattle.table.specs.Table.{part_at};
+
+/// One record, rows of them, their judge and their writer.
+pub mod rows;
 
 // The bytes of record k, where a record takes `size`; past the last whole record, none.
 pub fn record(s: &[u8], size: usize, k: usize) -> &[u8]
@@ -11,8 +14,7 @@ pub fn record(s: &[u8], size: usize, k: usize) -> &[u8]
 {
     if k < s.len() / size {
         let from = size * k;
-        let to = from + size;
-        &s[from..to]
+        &s[from..from + size]
     } else {
         &s[..0]
     }

@@ -1,22 +1,21 @@
 -- What one target and its fields have to do with each other, and what the judge and the writer accept, said of the numbers. Assumes nothing.
 use mathlib.Core.Path.{◌≡◌, refl}
-use mathlib.Core.Bool.{Bool, true, ◌&&◌}
+use mathlib.Core.Bool.{true}
 use mathlib.Core.List.{List}
 use Prim.Native.Nat.{ℕ}
 use native.Mathlib.Omega.{arith}
-use lib.Dec.{leb, leb-zero}
+use lib.Dec.{leb}
 use lib.ListN.{length}
 use borrow.Author.Tests.{leb-true, eqb-true}
 use Rattle.bits.specs.Fields.{Fit}
 use Rattle.bits.proofs.Ranges.{and-true_left, and-true_right}
 use Rattle.record.specs.Location.{farthest}
-use Rattle.refusal.specs.declared.Verdict.TheVariants.{Accepted}
-use Rattle.table.specs.Table as specs
-use Rattle.table.proofs.Records.{Facts}
+use Rattle.refusal.specs.Verdict.{Accepted}
+use Rattle.table.specs.Facts.{Facts}
 use Rattle.table.proofs.Judging as table
 use Rattle.table.proofs.RoundTrip.{written_lawful}
 use Rattle.targets.specs.declared.Target.{Target}
-use Rattle.targets.specs.Targets.{most, widths, fields_of, fastest, in_range, targets, counted, target_at, judge_targets, same, write_targets}
+use Rattle.targets.specs.Targets.{widths, fields_of, fastest, in_range, targets, target_at, judge_targets, same, write_targets}
 use Rattle.targets.specs.Sound.{Ranged, Sound}
 
 -- ---- one target
@@ -33,13 +32,6 @@ fits g h = omega (arith, ranged g h)
 
 pub facts : Facts targets
 facts = record { some = omega arith; whole = refl; narrow = tt; right = λ g. refl; fits = fits; back = λ g h. refl; forth = λ m h. refl; first = tt }
-
--- ---- how many
-
--- there is no fewest
-pub counted_is : (whole : Bool) (n : ℕ) → whole && leb n most ≡ whole && counted n
-unfolding specs.counted
-counted_is whole n = rw (leb-zero n)
 
 -- ---- what is accepted
 

@@ -1,6 +1,6 @@
 -- Figures of the targets, as one statement. Its proof is `figures` of proofs/Figures.antt.
 use Rattle.std.specs.Prelude.{◌≡◌, ℕ, List, [], ◌∷◌, ◌++◌, length}
-use Rattle.refusal.specs.declared.Verdict.TheVariants.{Accepted}
+use Rattle.refusal.specs.Verdict.{Accepted}
 use Rattle.targets.specs.Targets.{broken, judge_targets, target_of, bytes_of}
 
 -- the bytes of one target, and of several at speed 0

@@ -4,8 +4,7 @@ use Rattle.bits.specs.Tables.{up_to}
 use Rattle.record.specs.Location.{farthest}
 use Rattle.refusal.specs.Lowest.{Rule}
 use Rattle.refusal.specs.declared.Refusal.TheVariants.{BrokenTargets}
-use Rattle.refusal.specs.declared.Verdict.{Verdict}
-use Rattle.refusal.specs.declared.Verdict.TheVariants.{Refused}
+use Rattle.refusal.specs.Verdict.{Verdict, Refused}
 use Rattle.table.specs.Table as table
 use Rattle.table.specs.Table.{Table}
 use Rattle.targets.specs.declared.Target.{Target}

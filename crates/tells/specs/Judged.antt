@@ -1,9 +1,10 @@
 -- "reading and writing of records": the judges and the decision's reader, of numbers and lent slices alone. Definitions only.
-use Rattle.std.specs.Prelude.{List, [], ◌∷◌, ◌++◌, ℕ}
+use Rattle.std.specs.Prelude.{Result, Ok, Err, List, [], ◌∷◌, ◌++◌, ℕ}
 use Rattle.bits.specs.Fields.{bit}
 use Rattle.refusal.specs.Lowest.{Rule, lowest}
-use Rattle.refusal.specs.Number.{number_of_verdict, told}
+use Rattle.refusal.specs.Number.{number_of, number_of_verdict, told}
 use Rattle.refusal.specs.Written.{no_room, written}
+use Rattle.refusal.specs.declared.Refusal.{Refusal}
 use Rattle.refusal.specs.declared.Refusal.TheVariants.{NoRoom}
 use Rattle.consist.specs.Consist as consist
 use Rattle.profile.specs.Profile as profile
@@ -11,6 +12,11 @@ use Rattle.targets.specs.Targets as targets
 use Rattle.sample.specs.Sample as sample
 use Rattle.decision.specs.declared.Decision.{Decision}
 use Rattle.decision.specs.Decision as decision
+
+-- of an answer, whatever it hands back
+abbrev pub number_in : {A : Type 0} → Result A Refusal → ℕ
+number_in (Ok a) = 0
+number_in (Err r) = number_of r
 
 -- 2, 4, 5 and 13: "a consist under 16 bytes" (02, R-1), "a consist or decision field out of its range", "weight under 10 tons a car",
 -- "blocks that break these rules, their byte count included"

@@ -1,43 +1,48 @@
-// The records told as numbers: each record's judge over lent bytes, and a decision's numbers. An answer is the refusal's number, 0 for none.
+// The records told as numbers: each record's judge over lent bytes, and a decision's numbers. An answer is the refusal's number, 0 for none, and
+// parameters are bytes and numbers, as exported calls of crate `buongilach` have them.
 #![tactic(auto)]
 
 ghost use Rattle.std.specs.Prelude.{◌≡◌, ◌++◌, ◌≤◌};
 ghost use Rattle.std.proofs.Math.ListN as list;
-ghost use Rattle.tells.specs.Judged.{consist_judged, profile_judged, targets_judged, sample_judged, decision_numbers, numbers_of, decision_as_read};
+ghost use Rattle.refusal.specs.Number.{told};
+ghost use Rattle.tells.specs.Judged.{number_in, consist_judged, profile_judged, targets_judged, sample_judged, decision_numbers, numbers_of, decision_as_read};
 
 use decision::Decision;
-use refusal::{Refusal, Step, Verdict};
+use refusal::{Refusal, Verdict};
+
+// The number of an answer, whatever it holds: 0 where nothing is refused. `refusal::verdict_number`, of a `Verdict` alone, is a public
+// call with a theorem of its own (`refusal_verdict_number`).
+fn number<T: Drop>(answer: Result<T, Refusal>) -> u8
+    ensures { result ≡ number_in answer }
+{
+    match answer {
+        Ok(_) => 0,
+        Err(r) => r.number(),
+    }
+}
 
 pub fn consist(consist: &[u8]) -> u8
     ensures { result ≡ consist_judged consist.now }
 {
-    let answer = consist::read(consist);
-    let verdict = answer.verdict;
-    refusal::verdict_number(verdict)
+    number(consist::read(consist))
 }
 
 pub fn profile(profile: &[u8]) -> u8
     ensures { result ≡ profile_judged profile.now }
 {
-    let judged = profile::judge(profile);
-    let verdict = judged.verdict;
-    refusal::verdict_number(verdict)
+    number(profile::judge(profile))
 }
 
 pub fn targets(targets: &[u8]) -> u8
     ensures { result ≡ targets_judged targets.now }
 {
-    let judged = targets::judge(targets);
-    let verdict = judged.verdict;
-    refusal::verdict_number(verdict)
+    number(targets::judge(targets))
 }
 
 pub fn sample(sample: &[u8]) -> u8
     ensures { result ≡ sample_judged sample.now }
 {
-    let answer = sample::read(sample);
-    let verdict = answer.verdict;
-    refusal::verdict_number(verdict)
+    number(sample::read(sample))
 }
 
 // How many numbers a decision is.
@@ -55,18 +60,20 @@ fn put_numbers(d: Decision, out: &mut [u32])
     out[4] = d.stop;
 }
 
+// Puts the numbers of the decision that the bytes are over the first of `numbers`.
+fn put_decision(decision: &[u8], numbers: &mut [u32]) -> Verdict
+    ensures { told (result, numbers.new) ≡ decision_as_read decision.now numbers.old }
+{
+    let d = decision::read(decision)?;
+    let Some(()) = refusal::unless(numbers.len() < DECISION_NUMBERS) else {
+        return Err(Refusal::NoRoom);
+    };
+    put_numbers(d, numbers);
+    Ok(())
+}
+
 pub fn decision(decision: &[u8], numbers: &mut [u32]) -> u8
     ensures { (result, numbers.new) ≡ decision_as_read decision.now numbers.old }
 {
-    let answer = decision::read(decision);
-    let verdict = answer.verdict;
-    let Verdict::Accepted = verdict else {
-        return refusal::verdict_number(verdict);
-    };
-    let Step::On = refusal::unless(numbers.len() < DECISION_NUMBERS) else {
-        return refusal::number(Refusal::NoRoom);
-    };
-    let d = answer.decision;
-    put_numbers(d, numbers);
-    0
+    number(put_decision(decision, numbers))
 }

@@ -1,6 +1,5 @@
 -- What stands in the lists of a track's totals. Assumes nothing.
 use mathlib.Core.Path.{◌≡◌, ap, ap₂, ◌∙◌}
-use mathlib.Core.List.{List}
 use Prim.Native.Nat.{ℕ, ◌+◌, ◌≤◌}
 use native.Mathlib.Omega.{arith}
 use lib.ListN.{get_or, get_or-append}
@@ -19,8 +18,8 @@ module _ (t : Track) (k : ℕ) (l : k ≤ segments t) where
       get_or-append (up_to (segments t + 1) total) _ nothing k (omega (arith, length-up_to total (segments t + 1)))
       ∙ get_or_up_to total (segments t + 1) k nothing (omega arith)
 
-  pub kept_total : (grades : List ℤ) (curvatures : List ℕ) → AreTotals t grades curvatures → kept_in grades curvatures k ≡ total_of t k
+  pub kept_total : (totals : Totals) → AreTotals t totals → kept_in totals.grades totals.curvatures k ≡ total_of t k
   unfolding totals_of
-  kept_total grades curvatures h =
+  kept_total totals h =
       ap (λ (x : Totals). kept_in x.grades x.curvatures k) h
       ∙ ap₂ (λ (z : ℤ) (n : ℕ). record { grade = z; curvature = n }) (get_or_placed (grade_total t) (pos 0)) (get_or_placed (curvature_total t) 0)

@@ -3,8 +3,8 @@ use mathlib.Core.Path.{◌≡◌, sym, ◌∙◌}
 use contract.Lifetimes.{Lfts}
 use Rattle.track.proofs.Track.laid.Reads as laid
 use Rattle.track.proofs.Totals.summed.Reads as summed
-use Rattle.track.proofs.reached_at.Reads as reached_at
-use Rattle.track.proofs.under_train.Reads as under_train
+use Rattle.track.proofs.Route.reached_at.Reads as reached_at
+use Rattle.track.proofs.Route.under_train.Reads as under_train
 
 pub laid_one : (κs : Lfts 1) (a : _) (r₁ r₂ : _) (x : _) → laid.Post κs a r₁ x → laid.Post κs a r₂ x → r₁ ≡ r₂
 laid_one κs a r₁ r₂ x p q = p ∙ sym q

@@ -9,10 +9,6 @@ use Rattle.track.specs.declared.Place.{Place}
 use Rattle.track.specs.declared.Reached.{Reached}
 use Rattle.track.specs.Totals.{grade_total, curvature_total, holding_to, holding, grade_to, curvature_to}
 
--- the track whose arrays these are
-abbrev pub track_of : ℕ → List ℕ → List ℤ → List ℕ → Track
-track_of count starts grades curvatures = record { count = count; starts = starts; grades = grades; curvatures = curvatures }
-
 -- the size of the sums of n segments: one has under 2 ^ 32 feet, a grade of at most 2 ^ 15 in size and a curvature under 2 ^ 16
 pub record Sized (n : ℕ) (s : Sums) : Type 0 where
   pub grade : nat_abs s.grade ≤ n * 2 ^ 47

@@ -32,9 +32,9 @@ placed t total nothing = up_to (segments t + 1) total ++ replicate (most - (segm
 unfoldable pub totals_of : Track → Totals
 totals_of t = record { grades = placed t (grade_total t) (pos 0); curvatures = placed t (curvature_total t) 0 }
 
--- these lists are a track's totals
-abbrev pub AreTotals : Track → (grades : List ℤ) → (curvatures : List ℕ) → Type 0
-AreTotals t grades curvatures = record { grades = grades; curvatures = curvatures } ≡ totals_of t
+-- these are a track's totals
+abbrev pub AreTotals : Track → Totals → Type 0
+AreTotals t totals = totals ≡ totals_of t
 
 -- ---- at a location
 

@@ -5,9 +5,7 @@ use Prim.Native.Nat.{ℕ, ◌≤◌}
 use native.Mathlib.Omega.{arith}
 use lib.IntN.{ℤ, pos}
 use lib.Signed.{lt_z}
-use Rattle.trend.specs.declared.Learnt.{Learnt}
-use Rattle.trend.specs.declared.Learnt.TheVariants.{Nothing, Time}
-use Rattle.trend.specs.Result.{dividend, divisor, time_of, result_of}
+use Rattle.trend.specs.Result.{Learnt, Nothing, Time, dividend, divisor, time_of, result_of}
 use Rattle.trend.specs.Falling.{ResultInRange}
 
 time_in_range : (init : ℕ) (x y : ℤ) → (1000 ≤ time_of init x y) × (time_of init x y ≤ 240000)

@@ -1,9 +1,7 @@
 -- What is told of a result tells it: no two are told alike. Assumes nothing.
 use mathlib.Core.Path.{◌≡◌, refl, sym, ap, ◌∙◌}
 use Prim.Native.Nat.{ℕ, zero, suc}
-use Rattle.trend.specs.declared.Learnt.{Learnt}
-use Rattle.trend.specs.declared.Learnt.TheVariants.{Nothing, Time}
-use Rattle.trend.specs.Result.{learnt_number}
+use Rattle.trend.specs.Result.{Learnt, Nothing, Time, learnt_number}
 
 learnt_of : ℕ → Learnt
 learnt_of zero = Nothing

@@ -1,7 +1,7 @@
 -- Of points that fall there always is a result, and it is inside the consist's range. Statements; proofs/{Falling,Ranges}.antt prove them.
 use Rattle.std.specs.Prelude.{◌≡◌, List, [], ◌∷◌, ℕ, ◌≤◌, ◌<◌, pos, ◌<ℤ◌}
 use Rattle.trend.specs.declared.Sums.{Sums}
-use Rattle.trend.specs.declared.Learnt.TheVariants.{Time}
+use Rattle.trend.specs.Result.{Time}
 use Rattle.trend.specs.Points.{Point, sums_of}
 use Rattle.trend.specs.Result.{divisor, result_of}
 

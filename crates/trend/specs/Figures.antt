@@ -1,6 +1,6 @@
 -- Worked lines and results, as one statement. Its proof is `figures` of proofs/Figures.antt.
 use Rattle.std.specs.Prelude.{◌≡◌, true, false, List, [], ◌∷◌, ℕ}
-use Rattle.trend.specs.declared.Learnt.TheVariants.{Nothing, Time}
+use Rattle.trend.specs.Result.{Nothing, Time}
 use Rattle.trend.specs.Points.{Point, sums_of, no_sums}
 use Rattle.trend.specs.Line.{levels_off}
 use Rattle.trend.specs.Result.{result_of}

@@ -1,11 +1,19 @@
 -- 000, 3.7: T_APPLY, "the result rounded up to a ms and held inside the consist's range". Definitions only.
-use Rattle.std.specs.Prelude.{ℕ, suc, ◌+◌, ◌*◌, min, max, cond, leb, ℤ, pos, neg_ℤ, ◌+ℤ◌, ◌-ℤ◌, ◌*ℤ◌}
+use Rattle.std.specs.Prelude.{Option, Some, None, ℕ, suc, ◌+◌, ◌*◌, min, max, cond, leb, ℤ, pos, neg_ℤ, ◌+ℤ◌, ◌-ℤ◌, ◌*ℤ◌}
 use Rattle.std.specs.Int.Signed.{lt_z}
 use Rattle.whole.specs.Floor.{floor_div, cut}
 use Rattle.trend.specs.declared.Sums.{Sums}
-use Rattle.trend.specs.declared.Learnt.{Learnt}
-use Rattle.trend.specs.declared.Learnt.TheVariants.{Nothing, Time}
 use Rattle.trend.specs.Line.{slope_top, intercept_top, bottom}
+
+-- what was learnt of the application time, in ms
+abbrev pub Learnt : Type 0
+Learnt = Option ℕ
+
+pattern abbrev pub Nothing : Learnt
+Nothing = None
+
+pattern abbrev pub Time : ℕ → Learnt
+Time ms = Some ms
 
 -- as a number: 0 where nothing is learnt, else one more than the ms
 abbrev pub learnt_number : Learnt → ℕ

@@ -9,7 +9,8 @@ ghost use Rattle.trend.specs.Line.{slope_top, intercept_top, bottom, levels_off}
 ghost use Rattle.trend.specs.Result.{dividend, divisor, rounded_up, in_range, time_of, result_of};
 
 // The sums of points (t, p), t in seconds, p in hundredths of a psi.
-#[derive(Clone, Copy)]
+// Their invariant is no part of the type: `is_sound` answers for every value.
+#[derive(Clone, Copy, Debug, PartialEq, Eq)]
 pub struct Sums {
     // N
     pub count: u16,
@@ -21,14 +22,6 @@ pub struct Sums {
     pub pressures: u32,
     // of t × p
     pub products: u32,
-}
-
-// What was learnt of the application time.
-#[derive(Clone, Copy)]
-pub enum Learnt {
-    Nothing,
-    // ms
-    Time(u32),
 }
 
 impl Sums {
@@ -49,6 +42,7 @@ impl Sums {
     }
 
     // Whether so many points, each within its bounds, can have these sums.
+    #[tactic(auto, unfolding(crate::specs::Sound::is_sound))]
     pub fn is_sound(self) -> bool
         ensures { result ≡ is_sound self }
     {
@@ -79,6 +73,7 @@ impl Sums {
 }
 
 // a × b − c × d, which M, B and Z all are.
+#[tactic(auto, using(crate::proofs::Bounds::apart_most))]
 fn determinant(a: u64, b: u64, c: u64, d: u64) -> i64
     requires { Room word_most a b c d }
     ensures { result ≡ pos (a * b) -ℤ pos (c * d) }
@@ -86,43 +81,78 @@ fn determinant(a: u64, b: u64, c: u64, d: u64) -> i64
     (a * b) as i64 - (c * d) as i64
 }
 
-// M: the line's slope is M / Z.
-fn slope_top(s: Sums) -> i64
-    requires { Small s }
-    ensures { result ≡ slope_top s }
-{
-    determinant(
-        s.count as u64,
-        s.products as u64,
-        s.times as u64,
-        s.pressures as u64,
-    )
+// The line through points of sums that are small enough for its words; its methods call them `s`, as the definitions do.
+// `levels_off` and `result` ask for the fact and make it: public, they take the sums as a learner keeps them.
+#[derive(Clone, Copy)]
+struct Line {
+    sums: Sums,
+    ghost small: { Small sums },
 }
 
-// B: its intercept is B / Z.
-fn intercept_top(s: Sums) -> i64
-    requires { Small s }
-    ensures { result ≡ intercept_top s }
-{
-    determinant(
-        s.squares as u64,
-        s.pressures as u64,
-        s.times as u64,
-        s.products as u64,
-    )
-}
+impl Line {
+    // M: the line's slope is M / Z.
+    #[tactic(auto, using(crate::proofs::Bounds::slope_room), unfolding(crate::specs::Line::slope_top))]
+    fn slope_top(self) -> i64
+        ensures { result ≡ slope_top self.sums }
+    {
+        let s = self.sums;
+        determinant(
+            s.count as u64,
+            s.products as u64,
+            s.times as u64,
+            s.pressures as u64,
+        )
+    }
 
-// Z.
-fn bottom(s: Sums) -> i64
-    requires { Small s }
-    ensures { result ≡ bottom s }
-{
-    determinant(
-        s.count as u64,
-        s.squares as u64,
-        s.times as u64,
-        s.times as u64,
-    )
+    // B: its intercept is B / Z.
+    #[tactic(auto, using(crate::proofs::Bounds::intercept_room), unfolding(crate::specs::Line::intercept_top))]
+    fn intercept_top(self) -> i64
+        ensures { result ≡ intercept_top self.sums }
+    {
+        let s = self.sums;
+        determinant(
+            s.squares as u64,
+            s.pressures as u64,
+            s.times as u64,
+            s.products as u64,
+        )
+    }
+
+    // Z.
+    #[tactic(auto, using(crate::proofs::Bounds::bottom_room), unfolding(crate::specs::Line::bottom))]
+    fn bottom(self) -> i64
+        ensures { result ≡ bottom self.sums }
+    {
+        let s = self.sums;
+        determinant(
+            s.count as u64,
+            s.squares as u64,
+            s.times as u64,
+            s.times as u64,
+        )
+    }
+
+    // X: the line's intercept above equalization.
+    fn dividend(self, equalization: u16) -> i64
+        ensures { result ≡ dividend equalization self.sums }
+    {
+        let b = self.intercept_top();
+        let z = self.bottom();
+        b - equalization as i64 * z
+    }
+
+    // Y: the final slope, steeper by 1.1 and 0.0933 psi a second where the last pressure is not below equalization.
+    fn divisor(self, equalization: u16, p: u16) -> i64
+        ensures { result ≡ divisor equalization p self.sums }
+    {
+        let m = self.slope_top();
+        let z = self.bottom();
+        if equalization <= p {
+            933 * z - 110 * m
+        } else {
+            -(100 * m)
+        }
+    }
 }
 
 // Whether the last slope, of this fall in so many seconds, is less than half the line's.
@@ -130,33 +160,10 @@ pub fn levels_off(fall: u16, seconds: u16, s: Sums) -> bool
     requires { Small s }
     ensures { result ≡ levels_off fall seconds s }
 {
-    let m = slope_top(s);
-    let z = bottom(s);
+    let line = Line { sums: s };
+    let m = line.slope_top();
+    let z = line.bottom();
     2 * fall as i64 * z < seconds as i64 * -m
-}
-
-// X: the line's intercept above equalization.
-fn dividend(equalization: u16, s: Sums) -> i64
-    requires { Small s }
-    ensures { result ≡ dividend equalization s }
-{
-    let b = intercept_top(s);
-    let z = bottom(s);
-    b - equalization as i64 * z
-}
-
-// Y: the final slope, steeper by 1.1 and 0.0933 psi a second where the last pressure is not below equalization.
-fn divisor(equalization: u16, p: u16, s: Sums) -> i64
-    requires { Small s }
-    ensures { result ≡ divisor equalization p s }
-{
-    let m = slope_top(s);
-    let z = bottom(s);
-    if equalization <= p {
-        933 * z - 110 * m
-    } else {
-        -(100 * m)
-    }
 }
 
 // 100,000 X / Y up, by 100 X / Y, down, and what that leaves: 100,000 X may not fit.
@@ -172,10 +179,7 @@ fn rounded_up(x: i64, y: i64, quotient: i64) -> i64
 fn in_range(ms: i64) -> u32
     ensures { result ≡ in_range ms }
 {
-    if ms < 1_000 {
-        return 1_000;
-    }
-    whole::lesser(ms as u64, 240_000) as u32
+    ms.clamp(1_000, 240_000) as u32
 }
 
 // The time in ms. Far from the range, the quotient alone tells at which end of it the time is held.
@@ -195,16 +199,14 @@ fn time(init: u16, x: i64, y: i64) -> u32
 }
 
 // The application time by the line over the points before the last one, whose pressure is p.
-pub fn result(init: u16, equalization: u16, p: u16, s: Sums) -> Learnt
+#[tactic(auto, using(crate::proofs::Bounds::dividend_most, crate::proofs::Bounds::divisor_most), unfolding(crate::specs::Result::result_of))]
+pub fn result(init: u16, equalization: u16, p: u16, s: Sums) -> Option<u32>
     requires small { Small s }
     requires timely { init < 600 }
     ensures { result ≡ result_of init equalization p s }
 {
-    let x = dividend(equalization, s);
-    let y = divisor(equalization, p, s);
-    if 0 < y {
-        Learnt::Time(time(init, x, y))
-    } else {
-        Learnt::Nothing
-    }
+    let line = Line { sums: s };
+    let x = line.dividend(equalization);
+    let y = line.divisor(equalization, p);
+    if 0 < y { Some(time(init, x, y)) } else { None }
 }

@@ -19,7 +19,7 @@ use Rattle.bits.proofs.Ranges.{and-true_left, neither}
 use Rattle.hundredths.specs.declared.Rounding.TheVariants.{Up, Down}
 use Rattle.hundredths.specs.Reading.{most_speed, is_bad, hundredths_of}
 use Rattle.hundredths.proofs.Rounded.{rounded_mono}
-use Rattle.refusal.specs.declared.Verdict.TheVariants.{Accepted}
+use Rattle.refusal.specs.Verdict.{Accepted}
 use Rattle.record.specs.Record.{wrong_length}
 use Rattle.sample.specs.declared.RawSample.{RawSample}
 use Rattle.sample.specs.Sample.{size, lead_widths, reading_widths, widths, rear_of, raw_in, read_sample, rear_in_hundredths}

@@ -5,8 +5,7 @@ use mathlib.Core.List.{List, [], ◌∷◌}
 use Prim.Native.Nat.{ℕ, suc, ◌≤◌}
 use native.Mathlib.Omega.{arith}
 use Rattle.refusal.specs.Steps.{kept}
-use Rattle.refusal.specs.declared.Verdict.{Verdict}
-use Rattle.refusal.specs.declared.Verdict.TheVariants.{Accepted}
+use Rattle.refusal.specs.Verdict.{Verdict, Accepted}
 use Rattle.refusal.proofs.Order.{passed, last_passed}
 use Rattle.consist.specs.Consist.{read_consist}
 use Rattle.sample.specs.Sample.{read_sample}

@@ -4,7 +4,7 @@ use Rattle.std.specs.Prelude.{◌≡◌, true, false, cond, List, [], ◌∷◌,
 use Rattle.std.specs.Float.Ieee.{le}
 use Rattle.hundredths.specs.declared.Rounding.TheVariants.{Up}
 use Rattle.hundredths.specs.Reading.{most_speed, is_bad, hundredths_of}
-use Rattle.refusal.specs.declared.Verdict.{Verdict}
+use Rattle.refusal.specs.Verdict.{Verdict}
 use Rattle.sample.specs.declared.Sample.{Sample}
 use Rattle.sample.specs.Sample.{raw_in}
 use Rattle.decision.specs.declared.Decision.{Decision}

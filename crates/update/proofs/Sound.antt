@@ -13,9 +13,8 @@ use Rattle.brake.specs.declared.State.{State}
 use Rattle.brake.specs.declared.State.TheVariants.{Charged, ApplyingService, HoldingService, ApplyingEmergency, HoldingEmergency, Charging}
 use Rattle.brake.specs.declared.Choice.{Choice}
 use Rattle.brake.specs.declared.Choice.TheVariants.{FiveSeconds, Everlasting}
-use Rattle.brake.specs.declared.Heard.{Heard}
 use Rattle.brake.specs.declared.Brake.{Brake}
-use Rattle.brake.specs.Rear.{heard_number}
+use Rattle.brake.specs.Rear.{Heard, heard_number}
 use Rattle.brake.specs.Sound.{most_pressure, most_time, Sound}
 use Rattle.reading.specs.declared.Reading.{Reading}
 use Rattle.reading.specs.Readings.{heard_after, is_kept, lost_rear, rear_taken, nominal_of, reading_of}

@@ -10,32 +10,32 @@ ghost use Rattle.update.specs.Sound.{Usable};
 use air::Air;
 use brake::Brake;
 use consist::Consist;
-use sample::RearPressure;
+use sample::Sample;
+use states::Rules;
 
-// The brake after one accepted sample, of which no rule reads more than these.
-pub fn updated(k: Brake, c: Consist, time: u32, front: u16, rear: RearPressure) -> Brake
+// The brake after one accepted sample: no rule reads its speed or its place. By name, as an `Air` is another type than a `Brake`.
+pub fn updated(k: Brake, c: Consist, m: Sample) -> Brake
     requires { Usable c k }
-    ensures { result ≡ update_of c k time front rear }
+    ensures { result ≡ update_of c k m.time m.front m.rear }
 {
-    let r = reading::of_sample(k, c, time, front, rear);
-    let held = Air::of(k);
-    let next = states::ruled(held, c, r);
-    let state = next.state;
-    let choice = k.choice;
-    let before = k.heard;
-    let heard = reading::heard(before, time, rear);
+    let reading = reading::of_sample(k, c, m);
+    let rules = Rules {
+        consist: &c,
+        reading,
+    };
+    let next = rules.ruled(Air::of(k));
     Brake {
-        state: state,
+        state: next.state,
         hold: next.hold,
         a: next.a,
         b: next.b,
         equalization: next.equalization,
         fall: next.fall,
-        last_front: front,
-        last_rear: r.rear,
-        last_time: time,
+        last_front: m.front,
+        last_rear: reading.rear,
+        last_time: m.time,
         sampled: true,
-        choice,
-        heard,
+        choice: k.choice,
+        heard: reading::heard(k.heard, m),
     }
 }

@@ -5,7 +5,7 @@ use Rattle.refusal.specs.Lowest.{Rule, lowest}
 use Rattle.refusal.specs.Number.{told}
 use Rattle.refusal.specs.Written.{no_room, written}
 use Rattle.refusal.specs.declared.Refusal.TheVariants.{WrongMark, NoRoom, BrokenBlocks}
-use Rattle.refusal.specs.declared.Verdict.{Verdict}
+use Rattle.refusal.specs.Verdict.{Verdict}
 use Rattle.blocks.specs.Blocks as blocks
 use Rattle.consist.specs.declared.Consist.{Consist}
 use Rattle.consist.specs.Consist as consist

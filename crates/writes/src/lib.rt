@@ -1,5 +1,5 @@
 // The records from numbers: each record's writer over plain numbers and lent bytes. A reading is the 32 bits of a binary32; an answer is the
-// refusal's number, 0 for none.
+// refusal's number, 0 for none. Parameters, lists side by side and answers are as the exported calls of crate `buongilach` have them.
 #![tactic(auto)]
 
 ghost use Rattle.std.specs.Prelude.{◌≡◌, [], ◌∷◌, ltb};
@@ -11,10 +11,10 @@ ghost use Rattle.writes.specs.Written.{consist_written, size_with, are_listed, w
 
 use blocks::Blocks;
 use consist::Consist;
-use refusal::{Refusal, Step, Verdict};
+use refusal::{Refusal, Verdict};
 use sample::{RawSample, Rear};
 
-// A consist without blocks.
+// A consist without blocks. It and `manifest` lay out C's nine numbers: a function of these nine for both would be no shorter.
 pub fn consist(
     cars: u16,
     axles: u16,
@@ -29,7 +29,6 @@ pub fn consist(
 ) -> u8
     ensures { (result, out.new) ≡ consist_written (cars ∷ axles ∷ weight ∷ length ∷ rated ∷ application ∷ recharge ∷ set ∷ offset ∷ []) out.old }
 {
-    let blocks = Blocks::none();
     let c = Consist {
         cars,
         axles,
@@ -40,10 +39,9 @@ pub fn consist(
         recharge,
         set,
         offset,
-        blocks,
+        blocks: Blocks::none(),
     };
-    let verdict = consist::write(c, out);
-    refusal::verdict_number(verdict)
+    refusal::verdict_number(consist::write(c, out))
 }
 
 // What a consist is refused for whatever its blocks: it is written aside without them.
@@ -51,8 +49,7 @@ fn judge_front(c: Consist) -> Verdict
     ensures { result ≡ lowest (rules c) }
 {
     let mut aside = [0u8; Consist::SIZE];
-    let alone = c.alone();
-    consist::write(alone, &mut aside)
+    consist::write(c.alone(), &mut aside)
 }
 
 // Whether `room` bytes are too few for a consist with `count` blocks. (4 * count may not fit a word.)
@@ -76,19 +73,15 @@ fn are_listed(lengths: &[u16], weights: &[u16]) -> bool
 fn write_manifest(c: Consist, lengths: &[u16], weights: &[u16], out: &mut [u8]) -> Verdict
     ensures { told (result, out.new) ≡ told (write_manifest c lengths.now weights.now out.old) }
 {
-    let verdict = judge_front(c);
-    let Verdict::Accepted = verdict else {
-        return verdict;
+    judge_front(c)?;
+    let Some(()) = refusal::unless(is_short(out.len(), lengths.len())) else {
+        return Err(Refusal::NoRoom);
     };
-    let Step::On = refusal::unless(is_short(out.len(), lengths.len())) else {
-        return Verdict::Refused(Refusal::NoRoom);
+    let Some(()) = refusal::unless(!are_listed(lengths, weights)) else {
+        return Err(Refusal::BrokenBlocks);
     };
-    let Step::On = refusal::unless(!are_listed(lengths, weights)) else {
-        return Verdict::Refused(Refusal::BrokenBlocks);
-    };
-    let blocks = Blocks::of_lists(lengths, weights);
-    let c = c.with_blocks(blocks);
-    consist::write(c, out)
+    let listed = c.with_blocks(Blocks::of_lists(lengths, weights));
+    consist::write(listed, out)
 }
 
 // A consist with a block for each length and weight, head end first.
@@ -108,7 +101,6 @@ pub fn manifest(
 ) -> u8
     ensures { (result, out.new) ≡ manifest_written (cars ∷ axles ∷ weight ∷ length ∷ rated ∷ application ∷ recharge ∷ set ∷ offset ∷ []) lengths.now weights.now out.old }
 {
-    let blocks = Blocks::none();
     let front = Consist {
         cars,
         axles,
@@ -119,26 +111,26 @@ pub fn manifest(
         recharge,
         set,
         offset,
-        blocks,
+        blocks: Blocks::none(),
     };
-    let verdict = write_manifest(front, lengths, weights, out);
-    refusal::verdict_number(verdict)
+    refusal::verdict_number(write_manifest(front, lengths, weights, out))
 }
 
+// This and `targets` each hand lists on to the writer of their record.
 pub fn profile(starts: &[u32], grades: &[i16], curvatures: &[u16], out: &mut [u8]) -> u8
     ensures { (result, out.new) ≡ profile_written starts.now grades.now curvatures.now out.old }
 {
-    let verdict = profile::write(starts, grades, curvatures, out);
-    refusal::verdict_number(verdict)
+    refusal::verdict_number(profile::write(starts, grades, curvatures, out))
 }
 
 pub fn targets(locations: &[u32], speeds: &[u16], out: &mut [u8]) -> u8
     ensures { (result, out.new) ≡ targets_written locations.now speeds.now out.old }
 {
-    let verdict = targets::write(locations, speeds, out);
-    refusal::verdict_number(verdict)
+    refusal::verdict_number(targets::write(locations, speeds, out))
 }
 
+// As C gives it: whether it is lost, and the bits of its reading. The sample's own `rear_of` is no public call: made one, it would be a call
+// more to promise and to try, for three lines.
 fn rear_of(lost: bool, bits: u32) -> Rear
     ensures { result ≡ rear_of lost bits }
 {
@@ -162,19 +154,15 @@ pub fn sample(
     ensures { (result, out.new) ≡ sample_written (sample_fields time present head speed front rear) out.old }
 {
     let lost = present == 0;
-    let Step::On = refusal::unless(lost & (rear != 0)) else {
-        return refusal::number(Refusal::WrongMark);
+    let Some(()) = refusal::unless(lost & (rear != 0)) else {
+        return Refusal::WrongMark.number();
     };
-    let speed = hundredths::float_of(speed);
-    let front = hundredths::float_of(front);
-    let rear = rear_of(lost, rear);
     let raw = RawSample {
         time,
         head,
-        speed,
-        front,
-        rear,
+        speed: hundredths::float_of(speed),
+        front: hundredths::float_of(front),
+        rear: rear_of(lost, rear),
     };
-    let verdict = sample::write(raw, out);
-    refusal::verdict_number(verdict)
+    refusal::verdict_number(sample::write(raw, out))
 }

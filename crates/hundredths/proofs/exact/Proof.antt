@@ -1,4 +1,5 @@
 -- `hundredths::exact` meets its contract: the bits are a pattern of x, which is read off it. Assumes nothing.
+-- A walk, of which a must-fail edit changes a line.
 use mathlib.Core.Path.{◌≡◌, sym, ap, ◌∙◌, subst}
 use native.Mathlib.Omega.{arith}
 use lib.Dec.{T}

@@ -1,4 +1,5 @@
 -- `hundredths::float_of` meets its contract: a pattern above the infinity's, its sign taken off, is a NaN's, and so is 0.0 / 0.0. Assumes nothing.
+-- A walk: tried without, and as answers to its goals, and it did not close.
 use mathlib.Core.Path.{◌≡◌, refl, sym, ◌∙◌, subst}
 use mathlib.Core.Bool.{Bool, true, not, true≢false}
 use Prim.Native.Nat.{ℕ, ◌%◌, ◌<◌}

@@ -1,4 +1,5 @@
 -- `hundredths::hundredths` meets its contract: 100 x is written as two fractions, and both round to the same. Assumes nothing.
+-- A walk: tried without, and as answers to its goals, and it did not close.
 use mathlib.Core.Path.{◌≡◌, sym, ap, ◌∙◌}
 use Prim.Native.Nat.{ℕ, ◌*◌, ◌^◌}
 use native.Mathlib.Nat.{mul_assoc}

@@ -1,4 +1,5 @@
 -- `hundredths::pressure` meets its contract: 160.0 is 5 * 2 ^ 5. Assumes nothing.
+-- A walk: tried without, and as answers to its goals, and it did not close.
 use mathlib.Core.Path.{◌≡◌, refl, sym, ◌∙◌}
 use mathlib.Core.Bool.{false, not}
 use lib.IntN.{pos}

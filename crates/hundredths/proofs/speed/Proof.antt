@@ -1,4 +1,5 @@
 -- `hundredths::speed` meets its contract: 100.0 is 25 * 2 ^ 2. Assumes nothing.
+-- A walk: tried without, and as answers to its goals, and it did not close.
 use mathlib.Core.Path.{◌≡◌, refl, sym, ◌∙◌}
 use mathlib.Core.Bool.{false, not}
 use lib.Dec.{lit≤}

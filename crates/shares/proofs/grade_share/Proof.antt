@@ -1,4 +1,5 @@
 -- `shares::grade_share` meets its contract: a sum of the steepest grade under the longest block, times a hundred and the heaviest weight, fits its word.
+-- A walk, of which a must-fail edit changes a line.
 -- Assumes nothing.
 use mathlib.Core.Path.{◌∙◌}
 use Prim.Native.Nat.{◌≤◌}

@@ -1,4 +1,5 @@
 -- `step::opposing_force` meets its contract: its words fit, and hold the terms of the definition and their sums.
+-- A walk, of which a must-fail edit changes a line.
 -- Assumes nothing.
 use Prim.Native.Nat.{ℕ, ◌*◌, ◌≤◌}
 use native.Mathlib.Omega.{arith}

@@ -1,4 +1,5 @@
 -- `trend::levels_off` meets its contract. Assumes nothing.
+-- A walk: tried without, and as answers to its goals, and it did not close.
 use Prim.Native.Nat.{ℕ, ◌*◌, ◌^◌, ◌≤◌, ◌<◌}
 use native.Mathlib.Nat.{mul-le-mul}
 use native.Mathlib.Omega.{arith}
@@ -17,7 +18,7 @@ use Rattle.trend.proofs.levels_off.Tie as tie
 
 module _ (c : tie.After-bottom-z) where
   abbrev start : tie.Start
-  start = c.before.before
+  start = c.before.before.before
 
   abbrev s : Sums
   s = start.args.s
@@ -78,5 +79,5 @@ returns c =
 pub levels_off_spec : {M : Type 1} → statement M
 levels_off_spec =
     tie.close
-    (tie.spec (λ c κs. search rules) (λ c κs. search rules) (λ c. search rules) mul-result mul-result-2 (λ c. search rules) sub-result mul-result-3
+    (tie.spec (λ c. search rules) (λ c κs. search rules) (λ c κs. search rules) (λ c. search rules) mul-result mul-result-2 (λ c. search rules) sub-result mul-result-3
     returns)

@@ -1,4 +1,5 @@
 -- `trend::rounded_up` meets its contract. Assumes nothing.
+-- A walk: tried without, and as answers to its goals, and it did not close.
 use mathlib.Core.Path.{◌≡◌, ◌∙◌}
 use Prim.Native.Nat.{ℕ, ◌*◌, ◌^◌, ◌≤◌, ◌<◌}
 use native.Mathlib.Omega.{arith}

@@ -1,4 +1,5 @@
 -- `trend::time` meets its contract: a quotient far from the range holds the time at an end of it. Assumes nothing.
+-- A walk: tried without, and as answers to its goals, and it did not close.
 use mathlib.Core.Path.{◌≡◌, ap, ◌∙◌}
 use Prim.Native.Nat.{ℕ, ◌+◌, ◌*◌, ◌^◌, ◌≤◌, ◌<◌}
 use native.Mathlib.Omega.{arith}

@@ -1,4 +1,5 @@
 -- `shares::Shares::plus` meets its contract: totals and shares are small enough for their differences and sums. Assumes nothing.
+-- A walk, of which a must-fail edit changes a line.
 use mathlib.Core.Path.{◌≡◌, ap, ap₂, ◌∙◌}
 use Prim.Native.Nat.{ℕ, ◌+◌, ◌*◌, ◌≤◌}
 use native.Mathlib.Omega.{arith}

@@ -1,4 +1,5 @@
 -- `step::Run::stepped` meets its contract: each part of a step is what the definition says. Assumes nothing.
+-- A walk, of which a must-fail edit changes a line.
 use mathlib.Core.Path.{◌≡◌}
 use Prim.Native.Nat.{ℕ, ◌+◌, ◌*◌, ◌/◌, ◌≤◌, ◌<◌}
 use native.Mathlib.Omega.{arith}

@@ -1,7 +1,0 @@
--- `held::refused` meets its contract. Assumes nothing.
-use borrow.Author.Rules.{rules}
-use Rattle.held.proofs.refused.Statement.{statement}
-use Rattle.held.proofs.refused.Tie as tie
-
-pub refused_spec : {M : Type 1} → statement M
-refused_spec = tie.close (tie.spec (λ c κs. search rules) (λ c. cc))

@@ -1,0 +1,10 @@
+use mathlib.Core.List.{[], ◌∷◌}
+use Rattle.writes.proofs.Told.{told_of}
+use Rattle.writes.proofs.Listed.{consist_told}
+use Rattle.writes.proofs.consist.Goals as goal
+
+pub returns : goal.returns
+returns c =
+    let a = c.args in
+    let fields = a.cars ∷ a.axles ∷ a.weight ∷ a.length ∷ a.rated ∷ a.application ∷ a.recharge ∷ a.set ∷ a.offset ∷ [] in
+    told_of c.verdict_number.ensures (consist_told fields a.out.now _ c.none.ensures _ c.write.ensures)
