@@ -110,19 +110,16 @@ impl Track {
     }
 
     // Of the records up to `from`, the one that holds at a location: the last that starts at or before it, or the first.
-    // By a `while`: a `for` over `(0..from).rev()` would look at `starts[k + 1]` and answer `k + 1`, and 0 behind it.
     fn back_from(&self, location: u32, from: usize) -> usize
         requires { from < most }
         ensures { result ≡ holding_to self.now.starts location from }
     {
-        let mut k = from;
-        while 0 < k {
+        for k in (1..=from).rev() {
             if self.starts[k] <= location {
                 return k;
             }
-            k -= 1;
         }
-        k
+        0
     }
 
     // Of the records up to the last, from one on that does not start past the location.

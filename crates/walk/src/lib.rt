@@ -83,7 +83,7 @@ fn narrowed(band: Band, arrival: u32, speed: u16) -> Band
     }
 }
 
-// Between the greatest square of an open arrival and the least of a closed one. By index, as `mark_all`: both say the same eight places.
+// Between the greatest square of an open arrival and the least of a closed one.
 fn quiet_band(arrivals: [u32; Target::MOST], speeds: [u16; Target::MOST]) -> Band
     ensures { Quiet speeds arrivals result }
 {
@@ -91,8 +91,8 @@ fn quiet_band(arrivals: [u32; Target::MOST], speeds: [u16; Target::MOST]) -> Ban
         low: 0,
         high: u64::MAX,
     };
-    for i in 0..Target::MOST {
-        band = narrowed(band, arrivals[i], speeds[i]);
+    for (&arrival, &speed) in arrivals.iter().zip(&speeds) {
+        band = narrowed(band, arrival, speed);
     }
     band
 }

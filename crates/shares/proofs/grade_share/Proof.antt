@@ -1,5 +1,5 @@
 -- `shares::grade_share` meets its contract: a sum of the steepest grade under the longest block, times a hundred and the heaviest weight, fits its word.
--- A walk, of which a must-fail edit changes a line.
+-- A walk, of which a must-fail edit changes a line: tried without, and as answers to its goals, and it did not close.
 -- Assumes nothing.
 use mathlib.Core.Path.{◌∙◌}
 use Prim.Native.Nat.{◌≤◌}

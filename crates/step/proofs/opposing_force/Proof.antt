@@ -1,5 +1,5 @@
 -- `step::opposing_force` meets its contract: its words fit, and hold the terms of the definition and their sums.
--- A walk, of which a must-fail edit changes a line.
+-- A walk, of which a must-fail edit changes a line: tried without, and as answers to its goals, and it did not close.
 -- Assumes nothing.
 use Prim.Native.Nat.{ℕ, ◌*◌, ◌≤◌}
 use native.Mathlib.Omega.{arith}

@@ -1,7 +1,9 @@
 use Prim.Native.Nat.{ℕ, ◌*◌, ◌<◌}
-use lib.ListN.{get_or}
+use lib.ListN.{get_or, length}
 use Rattle.walk.specs.Marks.{Kept}
 use Rattle.walk.proofs.quiet_band.Given as goal
 
-abbrev pub invariant-loop-i : goal.invariant-loop-i
-invariant-loop-i l = (k : ℕ) → k < l.i → Kept l.band (get_or l.speeds k 0 * get_or l.speeds k 0) (get_or l.arrivals k 0)
+abbrev pub invariant-loop-arrival : goal.invariant-loop-arrival
+invariant-loop-arrival l =
+    (goal.iterator-loop-arrival).can_next l.arrival-iterator × (goal.iterator-loop-arrival).is_finite l.arrival-iterator
+    × ((k : ℕ) → k < length l.yielded → Kept l.band (get_or l.fn.speeds k 0 * get_or l.fn.speeds k 0) (get_or l.fn.arrivals k 0))

@@ -1,5 +1,5 @@
 -- `shares::Shares::plus` meets its contract: totals and shares are small enough for their differences and sums. Assumes nothing.
--- A walk, of which a must-fail edit changes a line.
+-- A walk, of which a must-fail edit changes a line: tried without, and as answers to its goals, and it did not close.
 use mathlib.Core.Path.{◌≡◌, ap, ap₂, ◌∙◌}
 use Prim.Native.Nat.{ℕ, ◌+◌, ◌*◌, ◌≤◌}
 use native.Mathlib.Omega.{arith}

@@ -1,5 +1,5 @@
 -- `step::Run::stepped` meets its contract: each part of a step is what the definition says. Assumes nothing.
--- A walk, of which a must-fail edit changes a line.
+-- A walk, of which a must-fail edit changes a line: tried without, and as answers to its goals, and it did not close.
 use mathlib.Core.Path.{◌≡◌}
 use Prim.Native.Nat.{ℕ, ◌+◌, ◌*◌, ◌/◌, ◌≤◌, ◌<◌}
 use native.Mathlib.Omega.{arith}

@@ -14,4 +14,4 @@ pub returns : goal.returns
 unfolding holding_to
 returns c =
     let e : c.loop-k.k ≡ 0 = omega arith in
-    e ∙ sym (ap (holding_to _ _) e) ∙ c.loop-k.invariant.1
+    sym (ap (holding_to _ _) e) ∙ c.loop-k.invariant.1

@@ -6,6 +6,3 @@ use Rattle.track.proofs.Track.back_from.Given as goal
 
 abbrev pub invariant-loop-k : goal.invariant-loop-k
 invariant-loop-k l = (l.k ≤ l.from) × (holding_to l.self.starts l.location l.k ≡ holding_to l.self.starts l.location l.from)
-
-abbrev pub decreases-loop-k : goal.decreases-loop-k
-decreases-loop-k l = l.k
