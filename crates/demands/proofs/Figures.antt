@@ -2,12 +2,11 @@
 use mathlib.Core.Path.{refl}
 use Rattle.hundredths.specs.Reading.{speed_of, pressure_of}
 use Rattle.sampling.proofs.Computing.{computing}
-use Rattle.std.specs.Fmt.{digits}
-use Rattle.line.specs.Line.{decision_text}
+use Rattle.line.specs.Line.{last_digits, decimal, decision_text}
 use Rattle.demands.specs.Figures.{Figures}
 
 pub figures : Figures
-unfolding computing speed_of pressure_of digits decision_text
+unfolding computing speed_of pressure_of last_digits decimal decision_text
 figures = record {
   equalization = refl;
   emergency = refl;

@@ -2,13 +2,12 @@
 use mathlib.Core.Path.{refl}
 use Rattle.sampling.proofs.Computing.{computing}
 use Rattle.opening.specs.Opening.{blocks_ahead, profile_ahead, targets_ahead, taken}
-use Rattle.std.specs.Fmt.{digits}
-use Rattle.line.specs.Line.{decision_text, refusal_text}
+use Rattle.line.specs.Line.{last_digits, decimal, decision_text, refusal_text}
 use Rattle.feed.specs.Output.{lines_of, output_of}
 use Rattle.feed.specs.Case.{Case}
 
 pub computed : Case
-unfolding computing blocks_ahead profile_ahead targets_ahead taken digits decision_text refusal_text lines_of output_of
+unfolding computing blocks_ahead profile_ahead targets_ahead taken last_digits decimal decision_text refusal_text lines_of output_of
 computed = record {
   whole_output = refl;
   by_old_choice = refl;

@@ -2,12 +2,11 @@
 use mathlib.Core.Path.{refl}
 use Rattle.table.specs.Table.{counted}
 use Rattle.opening.specs.Opening.{blocks_ahead, profile_ahead, targets_ahead}
-use Rattle.std.specs.Fmt.{digits}
-use Rattle.line.specs.Line.{decision_text, refusal_text}
+use Rattle.line.specs.Line.{last_digits, decimal, decision_text, refusal_text}
 use Rattle.feed.specs.Figures.{Figures}
 
 pub figures : Figures
-unfolding digits decision_text refusal_text counted blocks_ahead profile_ahead targets_ahead
+unfolding last_digits decimal decision_text refusal_text counted blocks_ahead profile_ahead targets_ahead
 figures = record {
   first_line_lem = refl;
   second_record = refl;

@@ -1,4 +1,5 @@
 -- Laws that several proofs cite, and the theorems about the lines, the counts and the output.
+pub mod Fits
 pub mod Front
 pub mod Known
 pub mod Opening

@@ -16,7 +16,7 @@ appended old new before bs e h = by new (subst (λ o. Appends o new bs) e h)
     by (Some ys) k = ap Some k
     by None k = absurd k
 
--- of known bytes, where no read and no write fails: what is written, and what is left
+-- of known bytes, where it answers that no read and no write failed: what is written, and what is left
 pub try_run_one : (R W R_laws W_laws read R_reads write W_writes : _) (κs a r₁ r₂ x₁ x₂ : _)
     → try_run.Post R W R_laws W_laws read R_reads write W_writes κs a r₁ x₁ → try_run.Post R W R_laws W_laws read R_reads write W_writes κs a r₂ x₂
     → (all before : List ℕ) → read.remaining a.0.now ≡ Some all → write.contents a.1.0.now ≡ Some before → IsOk r₁ → IsOk r₂

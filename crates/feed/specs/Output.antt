@@ -103,7 +103,7 @@ printed Accepted (Bytes n) Broken lines = refusal_text BrokenTargets
 -- otherwise the samples' lines, and where there are no samples nothing
 printed Accepted (Bytes n) (Bytes m) lines = lines
 
--- The whole output of a feed, under a choice (02, R-7), which its bytes do not carry. Where no read and no write fails, `run` prints it.
+-- The whole output of a feed, under a choice (02, R-7), which its bytes do not carry. Where `try_run` answers that no read and no write failed, it has printed this.
 unfoldable pub output_of : Choice → List ℕ → List ℕ
 output_of choice feed =
     let profile = profile_taken (profile_announced feed) (profile_bytes feed) in

@@ -10,7 +10,6 @@ ghost use Rattle.feed.specs.Bytes.{Known, Prints, Leaves, Follows};
 ghost use Rattle.feed.specs.Output.{output_of, lines_from, unread};
 ghost use Rattle.feed.specs.Opened.{Opened};
 
-use arrayvec::ArrayVec;
 use brake::Choice;
 use decision::Decision;
 use line::Lines;
@@ -46,9 +45,9 @@ fn write_full<W: Write>(output: &mut W, text: &[u8]) -> io::Result<()>
 fn print<W: Write>(output: &mut W, lines: Lines) -> io::Result<()>
     ensures { OnOk result (Appends (W.contents output.old) (W.contents output.new) (lines_text lines)) }
 {
-    let mut text = ArrayVec::<u8, { line::ROOM }>::new();
-    write!(text, "{lines}")?;
-    write_full(output, text.as_slice())
+    let mut text = [0u8; line::ROOM];
+    let from = lines.put(&mut text);
+    write_full(output, &text[from..])
 }
 
 /// Opens a session, and reads the profile to the front of `p` and the targets to that of `t`: as `read` does, it answers how many

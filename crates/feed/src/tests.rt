@@ -1,6 +1,5 @@
 // A run over memory, where no read fails: document 01's case with two of its samples.
 use crate::try_run;
-use arrayvec::ArrayVec;
 use brake::Choice;
 use std::io;
 
@@ -23,17 +22,21 @@ fn ensure(right: bool) -> io::Result<()> {
 #[test]
 fn prints_every_line() -> io::Result<()> {
     let mut feed = FEED.as_slice();
-    let mut printed = ArrayVec::<u8, 64>::new();
-    try_run(&mut feed, &mut printed, Choice::FiveSeconds)?;
+    let mut printed = [0u8; 64];
+    let mut left = printed.as_mut_slice();
+    try_run(&mut feed, &mut left, Choice::FiveSeconds)?;
     let lines = b"0 0 0 0 5000\n0 0 0 0 0\n1 0 1 1 5032\n1 0 0 0 5032\n";
-    ensure(printed.as_slice() == lines.as_slice())?;
+    ensure(left.len() == 64 - lines.len())?;
+    ensure(printed.starts_with(lines.as_slice()))?;
     ensure(feed.is_empty())
 }
 
 #[test]
 fn ends_at_a_write_that_fails() -> io::Result<()> {
     let mut feed = FEED.as_slice();
-    let mut printed = ArrayVec::<u8, 23>::new();
-    ensure(try_run(&mut feed, &mut printed, Choice::FiveSeconds).is_err())?;
+    let mut printed = [0u8; 23];
+    let mut left = printed.as_mut_slice();
+    ensure(try_run(&mut feed, &mut left, Choice::FiveSeconds).is_err())?;
+    ensure(left.is_empty())?;
     ensure(printed.as_slice() == b"0 0 0 0 5000\n0 0 0 0 0\n".as_slice())
 }

@@ -172,6 +172,7 @@ pub fn read(s: &[u8]) -> Result<Session, Refusal>
 }
 
 // The session of the record that a session buffer begins with; one of fewer bytes than the longest record has none.
+#[tactic(auto, using(crate::proofs::Start::none_at_start))]
 pub fn read_start(s: &[u8]) -> Result<Session, Refusal>
     ensures { read_told (answer_of none_open result) ≡ read_told (read_session (record_at s.now)) }
 {

@@ -1,6 +1,5 @@
 -- What the session program prints: a line for each decision of a sample, and one for a refusal. Definitions only.
-use Rattle.std.specs.Prelude.{ℕ, List, [], ◌∷◌, ◌++◌, take, drop, Result, Ok, Err, Option, Some, None}
-pub use Rattle.std.specs.Fmt.{decimal}
+use Rattle.std.specs.Prelude.{ℕ, zero, suc, ◌+◌, ◌-◌, ◌*◌, ◌/◌, ◌%◌, List, [], ◌∷◌, ◌++◌, Bool, true, false, length, take, drop, ltb, Result, Ok, Err, Option, Some, None}
 use Rattle.refusal.specs.declared.Refusal.{Refusal}
 use Rattle.refusal.specs.Verdict.{Verdict, Accepted, Refused}
 use Rattle.refusal.specs.Number.{number_of}
@@ -21,6 +20,24 @@ space = 32
 -- `x`
 abbrev pub cross : ℕ
 cross = 120
+
+-- the character of a digit
+abbrev pub glyph : ℕ → ℕ
+glyph d = 48 + d
+
+-- nothing stands before the digit of a number below ten
+abbrev pub unless_below : Bool → List ℕ → List ℕ
+unless_below true front = []
+unless_below false front = front
+
+-- the digits of n, at most k of them: those of its tenth, unless n is below ten, and after them the last
+unfoldable pub last_digits : ℕ → ℕ → List ℕ
+last_digits zero n = []
+last_digits (suc k) n = let front = last_digits k (n / 10) in unless_below (ltb n 10) front ++ glyph (n % 10) ∷ []
+
+-- "decimal": all the digits of n, which are at most n + 1
+unfoldable pub decimal : ℕ → List ℕ
+decimal n = last_digits (suc n) n
 
 -- what stands between a number and the rest of its line; "Every line ends with a newline."
 abbrev pub separator : List ℕ → ℕ
@@ -75,3 +92,20 @@ second_text (Some l) = line_text l
 
 abbrev pub lines_text : Lines → List ℕ
 lines_text l = line_text l.first ++ second_text l.second
+
+-- ---- where it stands: the text before a place of the lent bytes, the place where it begins, and no other byte changed
+
+unfoldable pub put_before : List ℕ → ℕ → List ℕ → ℕ × List ℕ
+put_before text end out = (end - length text, take (end - length text) out ++ (text ++ drop end out))
+
+-- at the end of the lent bytes
+abbrev pub put_last : List ℕ → List ℕ → ℕ × List ℕ
+put_last text out = put_before text (length out) out
+
+-- bytes that hold any line: five numbers of 32 bits, so of up to ten digits, each with a byte after it
+abbrev pub line_room : ℕ
+line_room = 5 * 11
+
+-- bytes that hold a sample's two lines
+abbrev pub room : ℕ
+room = 2 * line_room

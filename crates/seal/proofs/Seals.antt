@@ -8,7 +8,7 @@ use mathlib.Core.List.{List, [], ◌∷◌, ◌++◌, append-nil}
 use lib.Dec.{eqb, leb}
 use lib.ListN.{length, take, drop, drop_of_length-le, length-append, length-drop, take-append-drop}
 use lib.Seq.{take_all, take_at, drop_at}
-use borrow.Author.Tests.{le-leb, eq-eqb, leb-true, eqb-true}
+use borrow.Author.Tests.{le-leb, lt-leb, eq-eqb, leb-true, eqb-true}
 use Rattle.bits.specs.Fields.{split, Fit}
 use Rattle.bits.specs.Bytes.{Bytes, eights, num}
 use Rattle.bits.proofs.Fields.{join-split, split-join, split_fit}
@@ -60,6 +60,11 @@ module _ (s : List ℕ) (long : 4 ≤ length s) where
       rw (le-leb 4 (length s) long)
       (ap₂ (λ (y r : List ℕ). body s ++ (y ++ r)) e (ap (λ (n : ℕ). drop n (tail s)) four ∙ d)
       ∙ ap (λ (r : List ℕ). body s ++ r) (append-nil _))
+
+-- fewer bytes than a check word has stay as they are
+pub too_few : (s : List ℕ) → length s < 4 → resealed s ≡ s
+unfolding resealed
+too_few s h = rw (lt-leb 4 (length s) h)
 
 -- ---- found
 

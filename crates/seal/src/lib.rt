@@ -36,6 +36,7 @@ pub fn is_sealed(s: &[u8]) -> bool
 }
 
 // Puts the check word of the bytes before them over the last four; where there are fewer, leaves them as they are.
+#[tactic(auto, using(crate::proofs::Seals::too_few))]
 pub fn put_check_word(out: &mut [u8])
     ensures { out.new ≡ resealed out.old }
 {
